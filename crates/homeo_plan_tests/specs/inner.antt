@@ -1,5 +1,6 @@
 pub mod AtomExample
 pub mod CallExample
+pub mod Example
 pub mod Object
 pub mod ObjectExample
 pub mod ResidualExample

@@ -1,6 +1,6 @@
 //! A whole call of a text, run by one site of two.
 
-ghost use Rattle.std.specs.Prelude.{◌≡◌, ◌<◌, All, map, replicate, pos, IfOk};
+ghost use Rattle.std.specs.Prelude.{◌≡◌, ◌<◌, All, map, replicate, pos};
 ghost use Rattle.homeo_syntax.specs.SourceView.{plain_workload};
 ghost use Rattle.homeo_meaning.specs.Bounds.{IsWithin};
 ghost use Rattle.homeo_meaning.specs.Declarations.{declarations};
@@ -19,87 +19,96 @@ use homeo_eval::initial;
 use homeo_ground::Grounding;
 use homeo_meaning::{Accepted, Database, GroundCall};
 use homeo_split::{Split, eval_l};
-use homeo_syntax::{List, Memory};
+use homeo_syntax::List;
 use std::alloc::Global;
 use std::process::Abort;
-use std::test::Fail;
 
-fn zeros(alloc: Global, count: usize) -> Result<Database, Memory>
-    ensures { IfOk result (λ d. d.items ≡ replicate count (pos 0)) }
+fn zeros(rt: &impl Abort, alloc: Global, count: usize) -> Database
+    ensures { result.items ≡ replicate count (pos 0) }
 {
-    Ok(List::from_vec(vec![in alloc; 0; count]?))
+    List::from_vec(vec![in alloc; 0; count].expect(rt, "memory"))
 }
 
 /// A database at two sites that have not written yet.
-pub(crate) fn undivided(alloc: Global, database: &Database) -> Result<Split, Memory>
-    ensures { IfOk result (IsUndivided database.now.items) }
+pub(crate) fn undivided(rt: &impl Abort, alloc: Global, database: &Database) -> Split
+    ensures { IsUndivided database.now.items result }
 {
     let values = database.as_slice();
-    let base = List::from_vec(Vec::from_slice(alloc, values)?);
-    let mut deltas = List::new(alloc);
-    deltas.push(zeros(alloc, values.len())?)?;
-    deltas.push(zeros(alloc, values.len())?)?;
-    Ok(Split { base, deltas })
+    let base = Vec::from_slice(alloc, values).expect(rt, "memory");
+    let here = zeros(rt, alloc, values.len());
+    let there = zeros(rt, alloc, values.len());
+    Split {
+        base: List::from_vec(base),
+        deltas: List::from_vec(vec![in alloc; here, there].expect(rt, "memory")),
+    }
 }
 
 /// Runs a ground call at a site, on a database that the sites have not written yet.
 fn run_first(
+    rt: &impl Abort,
     alloc: Global,
     w: &Accepted,
     declared: &Declarations,
     call: &GroundCall,
     database: &Database,
     site: u32,
-) -> Result<Split, Memory>
+) -> Split
     requires declared { declared.now ≡ declarations (plain_workload w.now) }
     requires called { IsCalled (plain_workload w.now) (plain_ground call.now) }
     requires within { IsWithin (schema_of (plain_workload w.now)) database.now.items }
     requires site { site < 2 }
-    ensures { IfOk result SumsFit }
+    ensures { SumsFit result }
 {
     // its ground calls compute small numbers, and its bounds are small
     let _workload = w.workload();
-    let form = desugar(alloc, call, w, declared)?;
-    let mut split = undivided(alloc, database)?;
-    let shifted = transform(alloc, &form, site, 2)?;
-    let _prints = eval_l(alloc, &shifted, &mut split)?;
-    Ok(split)
+    let form = desugar(alloc, call, w, declared).expect(rt, "memory");
+    let mut split = undivided(rt, alloc, database);
+    let shifted = transform(alloc, &form, site, 2).expect(rt, "memory");
+    drop(form);
+    let _prints = eval_l(alloc, &shifted, &mut split).expect(rt, "memory");
+    drop(shifted);
+    split
 }
 
 /// The first of a workload's ground calls.
-pub(crate) fn first<'a>(w: &Accepted, calls: &'a [GroundCall]) -> Result<&'a GroundCall, Fail>
+pub(crate) fn first<'a>(rt: &impl Abort, w: &Accepted, calls: &'a [GroundCall]) -> &'a GroundCall
     requires { All (IsCalled (plain_workload w.now)) (map plain_ground calls.now) }
-    ensures { IfOk result (λ call. IsCalled (plain_workload w.now) (plain_ground call.now)) }
+    ensures { IsCalled (plain_workload w.now) (plain_ground result.now) }
 {
     match calls {
-        [call, ..] => Ok(call),
-        _ => Err(Fail::from("no call")),
+        [call, ..] => call,
+        _ => panic!(rt; "no call"),
     }
 }
 
 /// Runs the first ground call of a workload at site 0, from the starting values.
-fn run_workload(alloc: Global, w: &Accepted) -> Result<Split, Fail>
-    ensures { IfOk result SumsFit }
+fn run_workload(rt: &impl Abort, alloc: Global, w: &Accepted) -> Split
+    ensures { SumsFit result }
 {
-    let declared = Declarations::of(alloc, w)?;
-    let grounding = Grounding::of(alloc, w, &declared)?;
-    let call = first(w, grounding.calls())?;
-    let database = initial(alloc, w)?;
-    Ok(run_first(alloc, w, &declared, call, &database, 0)?)
+    let declared = Declarations::of(alloc, w).expect(rt, "memory");
+    let grounding = Grounding::of(alloc, w, &declared).expect(rt, "memory");
+    let call = first(rt, w, grounding.calls());
+    let database = initial(alloc, w).expect(rt, "memory");
+    let split = run_first(rt, alloc, w, &declared, call, &database, 0);
+    drop(grounding);
+    drop(declared);
+    split
 }
 
 /// Runs the first ground call of a text so.
-fn run_text(rt: &impl Abort, alloc: Global, text: &str) -> Result<Split, Fail>
-    ensures { IfOk result SumsFit }
+fn run_text(rt: &impl Abort, alloc: Global, text: &str) -> Split
+    ensures { SumsFit result }
 {
-    let w = accepted(rt, alloc, text)?;
-    run_workload(alloc, &w)
+    let w = accepted(rt, alloc, text);
+    let split = run_workload(rt, alloc, &w);
+    drop(w);
+    split
 }
 
 #[test]
-fn a_site_runs_a_whole_call(rt: HostRuntime) -> Result<(), Fail> {
+fn a_site_runs_a_whole_call(rt: HostRuntime) {
     let alloc = rt.alloc();
-    let split = run_text(&rt, alloc, TWICE)?;
+    let split = run_text(&rt, alloc, TWICE);
     same_items(&rt, split.base.as_slice(), [5].as_slice());
     match split.deltas.as_slice() {
         [own, other] => {
@@ -108,7 +117,7 @@ fn a_site_runs_a_whole_call(rt: HostRuntime) -> Result<(), Fail> {
         }
         _ => panic!(rt; "two sites"),
     }
-    let after = fold(alloc, &split)?;
+    let after = fold(alloc, &split).expect(&rt, "memory");
     same_items(&rt, after.as_slice(), [7].as_slice());
-    Ok(())
+    drop(split);
 }

@@ -1,6 +1,6 @@
 //! The atoms of a formula on an object at two sites.
 
-ghost use Rattle.std.specs.Prelude.{◌≡◌, IfOk};
+ghost use Rattle.std.specs.Prelude.{◌≡◌};
 ghost use Rattle.homeo_syntax.specs.LowView.{plain_lcond};
 ghost use Rattle.homeo_plan_tests.specs.inner.ObjectExample.{at_most_five};
 
@@ -8,23 +8,22 @@ use crate::object::{base, object_sum};
 use crate::same::{same, same_items};
 use homeo_linear::atoms;
 use homeo_plan::{Delta, Term};
-use homeo_syntax::{Compare, LCond, LExpr, LTest, List, Memory};
+use homeo_syntax::{Compare, LCond, LExpr, LTest, List};
 use std::alloc::Global;
-use std::test::Fail;
+use std::process::Abort;
 
 /// The object is at most 5.
-fn at_most_five(alloc: Global) -> Result<LCond, Memory>
-    ensures { IfOk result (λ c. plain_lcond c ≡ at_most_five) }
+fn at_most_five(rt: &impl Abort, alloc: Global) -> LCond
+    ensures { plain_lcond result ≡ at_most_five }
 {
-    let left = object_sum(alloc)?;
-    let right = LExpr::Literal(5);
-    let mut tests = List::new(alloc);
-    tests.push(LTest::Compare {
+    let test = LTest::Compare {
         op: Compare::LessEqual,
-        left,
-        right,
-    })?;
-    Ok(LCond { tests })
+        left: object_sum(rt, alloc),
+        right: LExpr::Literal(5),
+    };
+    LCond {
+        tests: List::from_vec(vec![in alloc; test].expect(rt, "memory")),
+    }
 }
 
 fn once(site: u32) -> Term {
@@ -35,10 +34,12 @@ fn once(site: u32) -> Term {
 }
 
 #[test]
-fn a_bound_of_an_object_is_one_form_of_its_deltas(rt: HostRuntime) -> Result<(), Fail> {
-    let formula = at_most_five(rt.alloc())?;
-    let base = base(rt.alloc(), 2)?;
-    let set = atoms(rt.alloc(), &formula, &base)?;
+fn a_bound_of_an_object_is_one_form_of_its_deltas(rt: HostRuntime) {
+    let alloc = rt.alloc();
+    let formula = at_most_five(&rt, alloc);
+    let base = base(&rt, alloc, 2);
+    let set = atoms(alloc, &formula, &base).expect(&rt, "memory");
+    drop(formula);
     match set.atoms.as_slice() {
         [atom] => {
             same(&rt, &atom.form.constant, &-3);
@@ -51,5 +52,5 @@ fn a_bound_of_an_object_is_one_form_of_its_deltas(rt: HostRuntime) -> Result<(),
         }
         _ => panic!(rt; "one atom"),
     }
-    Ok(())
+    drop(set);
 }

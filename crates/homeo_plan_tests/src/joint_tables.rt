@@ -1,41 +1,43 @@
 //! Joint tables of small tables.
 
-ghost use Rattle.std.specs.Prelude.{◌≡◌, ◌<◌, ◌≤◌, ◌^◌, vec_len, IfOk};
+ghost use Rattle.std.specs.Prelude.{◌≡◌, ◌<◌, ◌≤◌, ◌^◌, vec_len};
 ghost use Rattle.std.specs.List.{All};
 
 use crate::same::same;
 use homeo_joint::{JointError, joint};
 use homeo_plan::{JointRow, Row};
-use homeo_syntax::{LCond, List, Memory};
+use homeo_syntax::{LCond, List};
 use std::alloc::Global;
-use std::test::Fail;
+use std::process::Abort;
 
-fn table_of(alloc: Global, rows: u32) -> Result<Vec<Row>, Memory>
-    ensures { IfOk result (λ t. vec_len t ≡ rows) }
+fn table_of(rt: &impl Abort, alloc: Global, rows: u32) -> Vec<Row>
+    ensures { vec_len result ≡ rows }
 {
     let mut table = Vec::new(alloc);
     for _row in 0..rows {
-        table.push(Row {
+        let row = Row {
             formula: LCond {
                 tests: List::new(alloc),
             },
             residual: List::new(alloc),
-        })?;
+        };
+        table.push(row).expect(rt, "memory");
     }
-    Ok(table)
+    table
 }
 
-fn tables_of(alloc: Global, count: u32, rows: u32) -> Result<Vec<Vec<Row>>, Memory>
+fn tables_of(rt: &impl Abort, alloc: Global, count: u32, rows: u32) -> Vec<Vec<Row>>
     requires { 1 ≤ rows }
-    ensures count { IfOk result (λ ts. vec_len ts ≡ count) }
-    ensures some { IfOk result (λ ts. All (λ t. 1 ≤ vec_len t) ts.items) }
-    ensures counted { IfOk result (λ ts. All (λ t. vec_len t < 2 ^ 32) ts.items) }
+    ensures count { vec_len result ≡ count }
+    ensures some { All (λ t. 1 ≤ vec_len t) result.items }
+    ensures counted { All (λ t. vec_len t < 2 ^ 32) result.items }
 {
     let mut tables = Vec::new(alloc);
     for _table in 0..count {
-        tables.push(table_of(alloc, rows)?)?;
+        let table = table_of(rt, alloc, rows);
+        tables.push(table).expect(rt, "memory");
     }
-    Ok(tables)
+    tables
 }
 
 // Whether a joint row has as many picks as there are tables, each of this row.
@@ -48,22 +50,32 @@ fn picks_all(row: Option<&JointRow>, count: usize, pick: i64) -> bool {
     }
 }
 
-#[test]
-fn ten_tables_of_two_rows_have_1_024_joint_rows(rt: HostRuntime) -> Result<(), Fail> {
-    let tables = tables_of(rt.alloc(), 10, 2).ok().ok_or("memory")?;
-    let rows = joint(rt.alloc(), tables.as_slice())
-        .ok()
-        .ok_or("no joint table")?;
-    same(&rt, &rows.len(), &1_024);
-    assert!(rt; picks_all(rows.first(), 10, 0));
-    assert!(rt; picks_all(rows.last(), 10, 1));
-    Ok(())
+/// The joint rows of so many tables of so many rows, and nothing of the tables.
+fn rows_of(
+    rt: &impl Abort,
+    alloc: Global,
+    count: u32,
+    rows: u32,
+) -> Result<Vec<JointRow>, JointError>
+    requires { 1 ≤ rows }
+{
+    let tables = tables_of(rt, alloc, count, rows);
+    let joined = joint(alloc, tables.as_slice());
+    drop(tables);
+    joined
 }
 
 #[test]
-fn eleven_tables_of_two_rows_are_too_many(rt: HostRuntime) -> Result<(), Fail> {
-    let tables = tables_of(rt.alloc(), 11, 2).ok().ok_or("memory")?;
-    let why = joint(rt.alloc(), tables.as_slice()).err();
+fn ten_tables_of_two_rows_have_1_024_joint_rows(rt: HostRuntime) {
+    let rows = rows_of(&rt, rt.alloc(), 10, 2).expect(&rt, "a joint table");
+    same(&rt, &rows.len(), &1_024);
+    assert!(rt; picks_all(rows.first(), 10, 0));
+    assert!(rt; picks_all(rows.last(), 10, 1));
+}
+
+#[test]
+fn eleven_tables_of_two_rows_are_too_many(rt: HostRuntime) {
+    let why = rows_of(&rt, rt.alloc(), 11, 2).err();
     same(
         &rt,
         &why,
@@ -72,16 +84,11 @@ fn eleven_tables_of_two_rows_are_too_many(rt: HostRuntime) -> Result<(), Fail> {
             product: 2_048,
         }),
     );
-    Ok(())
 }
 
 #[test]
-fn no_tables_have_one_joint_row_without_picks(rt: HostRuntime) -> Result<(), Fail> {
-    let tables = tables_of(rt.alloc(), 0, 1).ok().ok_or("memory")?;
-    let rows = joint(rt.alloc(), tables.as_slice())
-        .ok()
-        .ok_or("no joint table")?;
+fn no_tables_have_one_joint_row_without_picks(rt: HostRuntime) {
+    let rows = rows_of(&rt, rt.alloc(), 0, 1).expect(&rt, "a joint table");
     same(&rt, &rows.len(), &1);
     assert!(rt; picks_all(rows.first(), 0, 0));
-    Ok(())
 }

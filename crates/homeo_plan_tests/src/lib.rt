@@ -1,4 +1,4 @@
-//! Tests of the crates of plans and of those below them, on values made here and on texts.
+//! Tests of the crates of plans, of those below them and of printing, on values made here and on texts.
 #![tactic(auto)]
 
 #[cfg(test)]
@@ -7,6 +7,8 @@ mod calls;
 mod copies;
 #[cfg(test)]
 mod effects;
+#[cfg(test)]
+mod evaluation;
 #[cfg(test)]
 mod formulas;
 #[cfg(test)]
@@ -18,6 +20,8 @@ mod numbering;
 #[cfg(test)]
 mod object;
 #[cfg(test)]
+mod printing;
+#[cfg(test)]
 mod residual;
 #[cfg(test)]
 mod rounds;
@@ -25,6 +29,8 @@ mod rounds;
 mod same;
 #[cfg(test)]
 mod sites;
+#[cfg(test)]
+mod sizes;
 #[cfg(test)]
 mod slacks;
 #[cfg(test)]
@@ -35,5 +41,7 @@ mod tables;
 mod templates;
 #[cfg(test)]
 mod texts;
+#[cfg(test)]
+mod values;
 #[cfg(test)]
 mod walks;

@@ -2,63 +2,67 @@
 
 use crate::same::same_items;
 use homeo_ground::number_clients;
-use homeo_syntax::{Call, Client, Ident, List, Memory, Number};
+use homeo_syntax::{Call, Client, Ident, List, Number};
 use std::alloc::Global;
-use std::test::Fail;
+use std::process::Abort;
 
 const BUY: u32 = 7;
 
 const SELL: u32 = 3;
 
-fn call(alloc: Global, name: u32, offset: u64, args: &[i64]) -> Result<Call, Memory> {
+fn call(rt: &impl Abort, alloc: Global, name: u32, offset: u64, args: &[i64]) -> Call {
     let mut numbers = List::new(alloc);
     for value in args {
-        numbers.push(Number {
+        let number = Number {
             value: *value,
             offset,
-        })?;
+        };
+        numbers.push(number).expect(rt, "memory");
     }
-    Ok(Call {
+    Call {
         name: Ident { name, offset },
         args: numbers,
-    })
+    }
 }
 
-fn client(site: i64, calls: List<Call>) -> Client {
+/// A client with so many calls, each by its transaction, its offset and its arguments.
+fn client(rt: &impl Abort, alloc: Global, site: i64, calls: &[(u32, u64, &[i64])]) -> Client {
+    let mut made = List::new(alloc);
+    for (name, offset, args) in calls {
+        let call = call(rt, alloc, *name, *offset, args);
+        made.push(call).expect(rt, "memory");
+    }
     Client {
         name: Ident { name: 9, offset: 0 },
         site: Number {
             value: site,
             offset: 0,
         },
-        calls,
+        calls: made,
     }
 }
 
 /// Two clients at sites 1 and 0, and a third at site 1.
-fn clients(alloc: Global) -> Result<Vec<Client>, Memory> {
-    let mut first = List::new(alloc);
-    first.push(call(alloc, BUY, 10, &[1, 2])?)?;
-    first.push(call(alloc, BUY, 20, &[2, 1])?)?;
-    first.push(call(alloc, BUY, 30, &[1, 2])?)?;
-    first.push(call(alloc, SELL, 40, &[1, 2])?)?;
-    let mut second = List::new(alloc);
-    second.push(call(alloc, BUY, 50, &[1, 2])?)?;
-    let mut third = List::new(alloc);
-    third.push(call(alloc, BUY, 60, &[2, 1])?)?;
-    third.push(call(alloc, BUY, 70, &[1])?)?;
-    third.push(call(alloc, SELL, 80, &[1, 2])?)?;
-    let mut clients = Vec::new(alloc);
-    clients.push(client(1, first))?;
-    clients.push(client(0, second))?;
-    clients.push(client(1, third))?;
-    Ok(clients)
+fn clients(rt: &impl Abort, alloc: Global) -> Vec<Client> {
+    let first: [(u32, u64, &[i64]); 4] = [
+        (BUY, 10, &[1, 2]),
+        (BUY, 20, &[2, 1]),
+        (BUY, 30, &[1, 2]),
+        (SELL, 40, &[1, 2]),
+    ];
+    let second: [(u32, u64, &[i64]); 1] = [(BUY, 50, &[1, 2])];
+    let third: [(u32, u64, &[i64]); 3] = [(BUY, 60, &[2, 1]), (BUY, 70, &[1]), (SELL, 80, &[1, 2])];
+    let first = client(rt, alloc, 1, first.as_slice());
+    let second = client(rt, alloc, 0, second.as_slice());
+    let third = client(rt, alloc, 1, third.as_slice());
+    vec![in alloc; first, second, third].expect(rt, "memory")
 }
 
 #[test]
-fn calls_have_places_in_first_seen_order(rt: HostRuntime) -> Result<(), Fail> {
-    let clients = clients(rt.alloc())?;
-    let numbered = number_clients(rt.alloc(), clients.as_slice())?;
+fn calls_have_places_in_first_seen_order(rt: HostRuntime) {
+    let alloc = rt.alloc();
+    let clients = clients(&rt, alloc);
+    let numbered = number_clients(alloc, clients.as_slice()).expect(&rt, "memory");
     match numbered.places.as_slice() {
         [first, second, third] => {
             same_items(&rt, first.as_slice(), [0, 1, 0, 2].as_slice());
@@ -67,11 +71,9 @@ fn calls_have_places_in_first_seen_order(rt: HostRuntime) -> Result<(), Fail> {
         }
         _ => panic!(rt; "three clients"),
     }
-    let offsets: Vec<u64> = numbered
-        .calls
-        .iter()
-        .map(|call| call.name.offset)
-        .collect(rt.alloc())?;
+    let offsets = numbered.calls.iter().map(|call| call.name.offset);
+    let offsets: Vec<u64> = offsets.collect(alloc).expect(&rt, "memory");
     same_items(&rt, offsets.as_slice(), [10, 20, 40, 50, 70].as_slice());
-    Ok(())
+    drop(numbered);
+    drop(clients);
 }

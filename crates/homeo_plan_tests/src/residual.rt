@@ -1,6 +1,6 @@
 //! A residual of an object at two sites, of which the first takes one, and a plan.
 
-ghost use Rattle.std.specs.Prelude.{◌≡◌, ◌+◌, ◌<◌, ◌^◌, length, IfOk};
+ghost use Rattle.std.specs.Prelude.{◌≡◌, ◌+◌, ◌<◌, ◌^◌, length};
 ghost use Rattle.homeo_syntax.specs.Low.{Neg};
 ghost use Rattle.homeo_syntax.specs.LowView.{plain_lexpr};
 ghost use Rattle.homeo_plan_tests.specs.inner.ResidualExample.{lowered, IsExample};
@@ -8,70 +8,77 @@ ghost use Rattle.homeo_plan_tests.specs.inner.ResidualExample.{lowered, IsExampl
 use crate::object::{base, object_sum, pair, sum};
 use homeo_follow::ObjectPlan;
 use homeo_plan::{Clause, Config, Delta, Residual, Template, Term};
-use homeo_syntax::{LCommand, LExpr, List, Memory, SplitName, Temp};
+use homeo_syntax::{LCommand, LExpr, List, SplitName, Temp};
 use std::alloc::Global;
+use std::process::Abort;
 use std::sync::Arc;
 
 #[tactic(auto, using(homeo_syntax::proofs::LowViews::low_phrase_views))]
-fn minus(alloc: Global, e: LExpr) -> Result<LExpr, Memory>
-    ensures { IfOk result (λ d. plain_lexpr d ≡ Neg (plain_lexpr e)) }
+fn minus(rt: &impl Abort, alloc: Global, e: LExpr) -> LExpr
+    ensures { plain_lexpr result ≡ Neg (plain_lexpr e) }
 {
-    Ok(LExpr::Neg(Box::new(alloc, e)?))
+    LExpr::Neg(Box::new(alloc, e).expect(rt, "memory"))
 }
 
-fn lowered(alloc: Global) -> Result<LExpr, Memory>
-    ensures { IfOk result (λ e. plain_lexpr e ≡ lowered) }
+fn lowered(rt: &impl Abort, alloc: Global) -> LExpr
+    ensures { plain_lexpr result ≡ lowered }
 {
-    let one = minus(alloc, LExpr::Literal(1))?;
-    let less = pair(alloc, LExpr::Temp(Temp::Named(7)), one)?;
-    let base = minus(alloc, LExpr::Read(SplitName::Base(0)))?;
-    let there = minus(alloc, LExpr::Read(SplitName::Delta { object: 0, site: 1 }))?;
-    sum(alloc, less, base, there)
+    let one = minus(rt, alloc, LExpr::Literal(1));
+    let less = pair(rt, alloc, LExpr::Temp(Temp::Named(7)), one);
+    let base = minus(rt, alloc, LExpr::Read(SplitName::Base(0)));
+    let there = minus(
+        rt,
+        alloc,
+        LExpr::Read(SplitName::Delta { object: 0, site: 1 }),
+    );
+    sum(rt, alloc, less, base, there)
 }
 
 /// At site 0: temporary 7 is set to the object, the site's delta to what is one less, and 1 is printed.
-pub(crate) fn residual(alloc: Global) -> Result<Residual, Memory>
-    ensures example { IfOk result IsExample }
-    ensures few { IfOk result (λ r. length r.commands.items < 2 ^ 32) }
+pub(crate) fn residual(rt: &impl Abort, alloc: Global) -> Residual
+    ensures example { IsExample result }
+    ensures few { length result.commands.items < 2 ^ 32 }
 {
-    let mut commands = List::new(alloc);
-    commands.push(LCommand::Assign {
+    let assign = LCommand::Assign {
         target: Temp::Named(7),
-        value: object_sum(alloc)?,
-    })?;
-    commands.push(LCommand::Write {
+        value: object_sum(rt, alloc),
+    };
+    let write = LCommand::Write {
         target: SplitName::Delta { object: 0, site: 0 },
-        value: lowered(alloc)?,
-    })?;
-    commands.push(LCommand::Print {
+        value: lowered(rt, alloc),
+    };
+    let print = LCommand::Print {
         value: LExpr::Literal(1),
-    })?;
-    Ok(Residual { site: 0, commands })
+    };
+    let commands = List::from_vec(vec![in alloc; assign, write, print].expect(rt, "memory"));
+    Residual { site: 0, commands }
 }
 
-fn clause(alloc: Global, factor: i128, slack: i128) -> Result<Clause, Memory> {
-    let term = Term {
-        delta: Delta { object: 0, site: 0 },
-        factor,
-    };
-    Ok(Clause {
-        terms: List::from_vec([term].to_vec(alloc)?),
+fn clause(rt: &impl Abort, alloc: Global, factor: i128, slack: i128) -> Clause {
+    let delta = Delta { object: 0, site: 0 };
+    let terms = vec![in alloc; Term { delta, factor }].expect(rt, "memory");
+    Clause {
+        terms: List::from_vec(terms),
         slack,
-    })
+    }
+}
+
+fn bounds_of(rt: &impl Abort, alloc: Global, first: i128, second: i128) -> List<i128> {
+    List::from_vec(vec![in alloc; first, second].expect(rt, "memory"))
 }
 
 /// A round in which the object is from 1 to 9: of its delta at site 0 at most 4 may be taken, and 2 added.
-pub(crate) fn plan(alloc: Global) -> Result<Arc<ObjectPlan>, Memory>
-    ensures { IfOk result (λ p. length p.value.template.clauses.items + length p.value.template.freezes.items < 2 ^ 32) }
+pub(crate) fn plan(rt: &impl Abort, alloc: Global) -> Arc<ObjectPlan>
+    ensures { length result.value.template.clauses.items + length result.value.template.freezes.items < 2 ^ 32 }
 {
-    let mut clauses = List::new(alloc);
-    clauses.push(clause(alloc, -1, 4)?)?;
-    clauses.push(clause(alloc, 1, 4)?)?;
-    let mut bounds = List::new(alloc);
-    bounds.push(List::from_vec([4, 0].to_vec(alloc)?))?;
-    bounds.push(List::from_vec([2, 2].to_vec(alloc)?))?;
+    let taken = clause(rt, alloc, -1, 4);
+    let added = clause(rt, alloc, 1, 4);
+    let clauses = List::from_vec(vec![in alloc; taken, added].expect(rt, "memory"));
+    let taken = bounds_of(rt, alloc, 4, 0);
+    let added = bounds_of(rt, alloc, 2, 2);
+    let bounds = List::from_vec(vec![in alloc; taken, added].expect(rt, "memory"));
     let plan = ObjectPlan {
-        base: base(alloc, 5)?,
+        base: base(rt, alloc, 5),
         template: Template {
             sites: 2,
             clauses,
@@ -79,5 +86,5 @@ pub(crate) fn plan(alloc: Global) -> Result<Arc<ObjectPlan>, Memory>
         },
         bounds: Some(Config { bounds }),
     };
-    Ok(Arc::new(alloc, plan)?)
+    Arc::new(alloc, plan).expect(rt, "memory")
 }

@@ -12,21 +12,28 @@ use homeo_build::shares::shares;
 use homeo_build::taken::taken_by;
 use homeo_build::treaties::treaties;
 use homeo_eval::initial;
-use homeo_meaning::Accepted;
 use homeo_plan::{Clause, Delta, Residual, RoundPlan, Term};
-use homeo_syntax::{LCommand, List, Memory, Numbers, SplitName};
+use homeo_syntax::{LCommand, List, Numbers, SplitName};
 use std::alloc::Global;
-use std::test::Fail;
+use std::process::Abort;
 
 /// The plan of the round that begins at the starting values.
-fn first_plan(alloc: Global, c: &Compiled) -> Result<RoundPlan, Memory> {
-    let base = initial(alloc, c.workload())?;
-    treaties(alloc, c, &base, None)
+fn first_plan(rt: &impl Abort, alloc: Global, c: &Compiled) -> RoundPlan {
+    let base = initial(alloc, c.workload()).expect(rt, "memory");
+    treaties(alloc, c, &base, None).expect(rt, "memory")
 }
 
-fn plan_of(alloc: Global, w: Accepted) -> Result<RoundPlan, Memory> {
-    let compiled = compile(alloc, w)?;
-    first_plan(alloc, &compiled)
+/// An accepted text, compiled.
+fn compiled(rt: &impl Abort, alloc: Global, text: &str) -> Compiled {
+    let w = accepted(rt, alloc, text);
+    compile(alloc, w).expect(rt, "memory")
+}
+
+fn plan_of(rt: &impl Abort, alloc: Global, text: &str) -> RoundPlan {
+    let compiled = compiled(rt, alloc, text);
+    let plan = first_plan(rt, alloc, &compiled);
+    drop(compiled);
+    plan
 }
 
 fn term(site: u32, factor: i128) -> Term {
@@ -66,29 +73,29 @@ fn bounds_both_writes(plan: &RoundPlan) -> bool {
 }
 
 #[test]
-fn a_second_write_is_bounded_on_what_the_first_one_wrote(rt: HostRuntime) -> Result<(), Fail> {
-    let alloc = rt.alloc();
-    let w = accepted(&rt, alloc, TWICE)?;
-    let plan = plan_of(alloc, w)?;
+fn a_second_write_is_bounded_on_what_the_first_one_wrote(rt: HostRuntime) {
+    let plan = plan_of(&rt, rt.alloc(), TWICE);
     same_items(&rt, plan.base.as_slice(), [5].as_slice());
     same(&rt, &plan.template.sites, &2);
     assert!(rt; bounds_both_writes(&plan));
     same(&rt, &plan.template.freezes.as_slice().len(), &0);
-    Ok(())
+    drop(plan);
 }
 
 /// The residual of the first ground call, in the round that begins at the starting values.
-fn first_residual(alloc: Global, c: &Compiled) -> Result<Residual, Fail> {
+fn first_residual(rt: &impl Abort, alloc: Global, c: &Compiled) -> Residual {
     if c.calls().is_empty() {
-        return Err(Fail::from("a call"));
+        panic!(rt; "a call");
     }
-    let base = initial(alloc, c.workload())?;
-    Ok(residual(alloc, c, &base, 0)?)
+    let base = initial(alloc, c.workload()).expect(rt, "memory");
+    residual(alloc, c, &base, 0).expect(rt, "memory")
 }
 
-fn residual_of(alloc: Global, w: Accepted) -> Result<Residual, Fail> {
-    let compiled = compile(alloc, w)?;
-    first_residual(alloc, &compiled)
+fn residual_of(rt: &impl Abort, alloc: Global, text: &str) -> Residual {
+    let compiled = compiled(rt, alloc, text);
+    let residual = first_residual(rt, alloc, &compiled);
+    drop(compiled);
+    residual
 }
 
 /// Whether it writes the delta of the first object at site 0.
@@ -103,10 +110,8 @@ fn writes_first(command: &LCommand) -> bool {
 }
 
 #[test]
-fn a_residual_writes_deltas_of_its_site(rt: HostRuntime) -> Result<(), Fail> {
-    let alloc = rt.alloc();
-    let w = accepted(&rt, alloc, TWICE)?;
-    let residual = residual_of(alloc, w)?;
+fn a_residual_writes_deltas_of_its_site(rt: HostRuntime) {
+    let residual = residual_of(&rt, rt.alloc(), TWICE);
     same(&rt, &residual.site, &0);
     match residual.commands.as_slice() {
         [first, second] => {
@@ -115,7 +120,7 @@ fn a_residual_writes_deltas_of_its_site(rt: HostRuntime) -> Result<(), Fail> {
         }
         _ => panic!(rt; "two writes"),
     }
-    Ok(())
+    drop(residual);
 }
 
 /// The first bounds follow the weights 3 and 1.
@@ -133,30 +138,25 @@ fn has_weighted_bounds(plan: &RoundPlan) -> bool {
 }
 
 #[test]
-fn slacks_are_shared_by_weights(rt: HostRuntime) -> Result<(), Fail> {
-    let alloc = rt.alloc();
-    let w = accepted(&rt, alloc, WEIGHTED)?;
-    let plan = plan_of(alloc, w)?;
+fn slacks_are_shared_by_weights(rt: HostRuntime) {
+    let plan = plan_of(&rt, rt.alloc(), WEIGHTED);
     assert!(rt; has_weighted_bounds(&plan));
-    Ok(())
+    drop(plan);
 }
 
 /// The shares of the clauses of the round that begins at the starting values.
-fn first_shares(alloc: Global, c: &Compiled) -> Result<Vec<Numbers>, Memory> {
-    let plan = first_plan(alloc, c)?;
-    shares(alloc, c, &plan.template)
-}
-
-fn shares_of(alloc: Global, w: Accepted) -> Result<Vec<Numbers>, Memory> {
-    let compiled = compile(alloc, w)?;
-    first_shares(alloc, &compiled)
+fn first_shares(rt: &impl Abort, alloc: Global, c: &Compiled) -> Vec<Numbers> {
+    let plan = first_plan(rt, alloc, c);
+    let shares = shares(alloc, c, &plan.template).expect(rt, "memory");
+    drop(plan);
+    shares
 }
 
 #[test]
-fn a_site_that_does_not_write_has_no_share(rt: HostRuntime) -> Result<(), Fail> {
-    let alloc = rt.alloc();
-    let w = accepted(&rt, alloc, ONE_WRITER)?;
-    let shares = shares_of(alloc, w)?;
+fn a_site_that_does_not_write_has_no_share(rt: HostRuntime) {
+    let compiled = compiled(&rt, rt.alloc(), ONE_WRITER);
+    let shares = first_shares(&rt, rt.alloc(), &compiled);
+    drop(compiled);
     match shares.as_slice() {
         [low, high] => {
             same_items(&rt, low.as_slice(), [1, 0].as_slice());
@@ -164,25 +164,22 @@ fn a_site_that_does_not_write_has_no_share(rt: HostRuntime) -> Result<(), Fail> 
         }
         _ => panic!(rt; "two clauses"),
     }
-    Ok(())
 }
 
 /// The site of the first ground call, and how many commands it takes from the starting values.
-fn first_taken(alloc: Global, c: &Compiled) -> Result<(u32, usize), Fail> {
+fn first_taken(rt: &impl Abort, alloc: Global, c: &Compiled) -> (u32, usize) {
     if c.calls().is_empty() {
-        return Err(Fail::from("a call"));
+        panic!(rt; "a call");
     }
-    let base = initial(alloc, c.workload())?;
-    let taken = taken_by(alloc, c, &base, 0)?;
-    Ok((taken.site, taken.commands.len()))
+    let base = initial(alloc, c.workload()).expect(rt, "memory");
+    let taken = taken_by(alloc, c, &base, 0).expect(rt, "memory");
+    (taken.site, taken.commands.len())
 }
 
 #[test]
-fn a_call_takes_both_writes(rt: HostRuntime) -> Result<(), Fail> {
-    let alloc = rt.alloc();
-    let w = accepted(&rt, alloc, TWICE)?;
-    let compiled = compile(alloc, w)?;
-    let taken = first_taken(alloc, &compiled)?;
+fn a_call_takes_both_writes(rt: HostRuntime) {
+    let compiled = compiled(&rt, rt.alloc(), TWICE);
+    let taken = first_taken(&rt, rt.alloc(), &compiled);
+    drop(compiled);
     same(&rt, &taken, &(0, 2));
-    Ok(())
 }

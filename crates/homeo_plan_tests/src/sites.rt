@@ -1,6 +1,6 @@
 //! A command and its delta transform, on a database of two objects at two sites.
 
-ghost use Rattle.std.specs.Prelude.{◌≡◌, [], ◌∷◌, IfOk};
+ghost use Rattle.std.specs.Prelude.{◌≡◌, [], ◌∷◌};
 ghost use Rattle.homeo_syntax.specs.LowView.{plain_lexpr, plain_lcommand};
 ghost use Rattle.homeo_plan_tests.specs.inner.SplitExample.{next, raise, IsStart};
 
@@ -9,59 +9,60 @@ use crate::same::same_items;
 use homeo_delta::{fold, transform};
 use homeo_meaning::Database;
 use homeo_split::{Split, eval_l};
-use homeo_syntax::{LCommand, LExpr, List, Memory, SplitName};
+use homeo_syntax::{LCommand, LExpr, List, SplitName};
 use std::alloc::Global;
-use std::test::Fail;
+use std::process::Abort;
 
-fn next(alloc: Global) -> Result<LExpr, Memory>
-    ensures { IfOk result (λ e. plain_lexpr e ≡ next) }
+fn next(rt: &impl Abort, alloc: Global) -> LExpr
+    ensures { plain_lexpr result ≡ next }
 {
-    pair(alloc, LExpr::Read(SplitName::Whole(0)), LExpr::Literal(1))
+    let object = LExpr::Read(SplitName::Whole(0));
+    pair(rt, alloc, object, LExpr::Literal(1))
 }
 
 /// Object 0 is raised by 1 and printed.
-fn raise(alloc: Global) -> Result<LCommand, Memory>
-    ensures { IfOk result (λ c. plain_lcommand c ≡ raise) }
+fn raise(rt: &impl Abort, alloc: Global) -> LCommand
+    ensures { plain_lcommand result ≡ raise }
 {
     let target = SplitName::Whole(0);
-    let value = next(alloc)?;
-    let mut commands = List::new(alloc);
-    commands.push(LCommand::Write { target, value })?;
-    commands.push(LCommand::Print {
+    let value = next(rt, alloc);
+    let write = LCommand::Write { target, value };
+    let print = LCommand::Print {
         value: LExpr::Read(target),
-    })?;
-    Ok(LCommand::Seq { commands })
+    };
+    LCommand::Seq {
+        commands: List::from_vec(vec![in alloc; write, print].expect(rt, "memory")),
+    }
 }
 
-fn values(alloc: Global, first: i64, second: i64) -> Result<Database, Memory>
-    ensures { IfOk result (λ v. v.items ≡ first ∷ second ∷ []) }
+fn values(rt: &impl Abort, alloc: Global, first: i64, second: i64) -> Database
+    ensures { result.items ≡ first ∷ second ∷ [] }
 {
-    let mut values = List::new(alloc);
-    values.push(first)?;
-    values.push(second)?;
-    Ok(values)
+    List::from_vec(vec![in alloc; first, second].expect(rt, "memory"))
 }
 
 /// Two objects at two sites.
-pub(crate) fn start(alloc: Global) -> Result<Split, Memory>
-    ensures { IfOk result IsStart }
+pub(crate) fn start(rt: &impl Abort, alloc: Global) -> Split
+    ensures { IsStart result }
 {
-    let base = values(alloc, 5, 7)?;
-    let mut deltas = List::new(alloc);
-    deltas.push(values(alloc, 2, -1)?)?;
-    deltas.push(values(alloc, 3, 4)?)?;
-    Ok(Split { base, deltas })
+    let base = values(rt, alloc, 5, 7);
+    let here = values(rt, alloc, 2, -1);
+    let there = values(rt, alloc, 3, 4);
+    let deltas = List::from_vec(vec![in alloc; here, there].expect(rt, "memory"));
+    Split { base, deltas }
 }
 
 #[test]
-fn a_site_raises_an_object_of_the_fold(rt: HostRuntime) -> Result<(), Fail> {
+fn a_site_raises_an_object_of_the_fold(rt: HostRuntime) {
     let alloc = rt.alloc();
-    let command = raise(alloc)?;
-    let mut split = start(alloc)?;
-    let before = fold(alloc, &split)?;
+    let command = raise(&rt, alloc);
+    let mut split = start(&rt, alloc);
+    let before = fold(alloc, &split).expect(&rt, "memory");
     same_items(&rt, before.as_slice(), [10, 10].as_slice());
-    let shifted = transform(alloc, &command, 1, 2)?;
-    let prints = eval_l(alloc, &shifted, &mut split)?;
+    let shifted = transform(alloc, &command, 1, 2).expect(&rt, "memory");
+    drop(command);
+    let prints = eval_l(alloc, &shifted, &mut split).expect(&rt, "memory");
+    drop(shifted);
     same_items(&rt, prints.as_slice(), [11].as_slice());
     same_items(&rt, split.base.as_slice(), [5, 7].as_slice());
     match split.deltas.as_slice() {
@@ -71,7 +72,7 @@ fn a_site_raises_an_object_of_the_fold(rt: HostRuntime) -> Result<(), Fail> {
         }
         _ => panic!(rt; "two sites"),
     }
-    let after = fold(alloc, &split)?;
+    let after = fold(alloc, &split).expect(&rt, "memory");
     same_items(&rt, after.as_slice(), [11, 10].as_slice());
-    Ok(())
+    drop(split);
 }

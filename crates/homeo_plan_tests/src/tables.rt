@@ -2,42 +2,45 @@
 
 use crate::same::same;
 use homeo_plan::Row;
-use homeo_syntax::{Compare, LCommand, LCond, LExpr, LTest, List, Memory, SplitName, Temp};
+use homeo_syntax::{Compare, LCommand, LCond, LExpr, LTest, List, SplitName, Temp};
 use homeo_table::table;
 use std::alloc::Global;
-use std::test::Fail;
+use std::process::Abort;
 
 // read(base 0) < 5
-fn is_low(alloc: Global) -> Result<LCond, Memory> {
-    let mut tests = List::new(alloc);
-    tests.push(LTest::Compare {
+fn is_low(rt: &impl Abort, alloc: Global) -> LCond {
+    let test = LTest::Compare {
         op: Compare::Less,
         left: LExpr::Read(SplitName::Base(0)),
         right: LExpr::Literal(5),
-    })?;
-    Ok(LCond { tests })
+    };
+    LCond {
+        tests: List::from_vec(vec![in alloc; test].expect(rt, "memory")),
+    }
+}
+
+// if (read(base 0) < 5) print(1) else skip
+fn choice(rt: &impl Abort, alloc: Global) -> LCommand {
+    let print = LCommand::Print {
+        value: LExpr::Literal(1),
+    };
+    LCommand::If {
+        test: is_low(rt, alloc),
+        yes: Box::new(alloc, print).expect(rt, "memory"),
+        no: Box::new(alloc, LCommand::Skip).expect(rt, "memory"),
+    }
 }
 
 // base 0 = t; if (read(base 0) < 5) print(1) else skip
-fn sample(alloc: Global) -> Result<LCommand, Memory> {
-    let mut commands = List::new(alloc);
-    commands.push(LCommand::Write {
+fn sample(rt: &impl Abort, alloc: Global) -> LCommand {
+    let write = LCommand::Write {
         target: SplitName::Whole(0),
         value: LExpr::Temp(Temp::Named(0)),
-    })?;
-    let yes = Box::new(
-        alloc,
-        LCommand::Print {
-            value: LExpr::Literal(1),
-        },
-    )?;
-    let no = Box::new(alloc, LCommand::Skip)?;
-    commands.push(LCommand::If {
-        test: is_low(alloc)?,
-        yes,
-        no,
-    })?;
-    Ok(LCommand::Seq { commands })
+    };
+    let choice = choice(rt, alloc);
+    LCommand::Seq {
+        commands: List::from_vec(vec![in alloc; write, choice].expect(rt, "memory")),
+    }
 }
 
 fn sizes(row: Option<&Row>) -> Option<(usize, usize)> {
@@ -64,12 +67,13 @@ fn first_is(row: Option<&Row>, number: i64) -> bool {
 }
 
 #[test]
-fn a_choice_has_two_rows(rt: HostRuntime) -> Result<(), Fail> {
-    let command = sample(rt.alloc()).ok().ok_or("memory")?;
-    let rows = table(rt.alloc(), &command).ok().ok_or("memory")?;
+fn a_choice_has_two_rows(rt: HostRuntime) {
+    let command = sample(&rt, rt.alloc());
+    let rows = table(rt.alloc(), &command).expect(&rt, "memory");
+    drop(command);
     same(&rt, &rows.len(), &2);
     same(&rt, &sizes(rows.first()), &Some((1, 2)));
     same(&rt, &sizes(rows.last()), &Some((1, 1)));
     assert!(rt; first_is(rows.first(), 0));
-    Ok(())
+    drop(rows);
 }

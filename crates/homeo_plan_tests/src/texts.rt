@@ -3,7 +3,6 @@
 use homeo_meaning::{Accepted, Purpose};
 use std::alloc::Global;
 use std::process::Abort;
-use std::test::Fail;
 
 /// The second write reads what the first one wrote.
 pub(crate) const TWICE: &str = "workload 1
@@ -40,8 +39,7 @@ end
 ";
 
 /// Reads a text that is accepted.
-pub(crate) fn accepted(rt: &impl Abort, alloc: Global, text: &str) -> Result<Accepted, Fail> {
+pub(crate) fn accepted(rt: &impl Abort, alloc: Global, text: &str) -> Accepted {
     assert!(rt; text.len() <= 1_048_576);
-    let w = homeo_accept::accepted(alloc, text.as_bytes(), Purpose::Steps);
-    Ok(w.ok().ok_or("an accepted text")?)
+    homeo_accept::accepted(alloc, text.as_bytes(), Purpose::Steps).expect(rt, "an accepted text")
 }

@@ -25,10 +25,10 @@ use homeo_meaning::{Accepted, Database, GroundCall};
 use homeo_plan::Row;
 use homeo_print::{ObjectNames, print_row};
 use homeo_split::Split;
-use homeo_syntax::{LCommand, Memory, Workload};
+use homeo_syntax::{LCommand, Workload};
 use homeo_table::{row_at, table, taken, walk};
 use std::alloc::Global;
-use std::test::Fail;
+use std::process::Abort;
 
 /// Both writes stay within the bounds. The second one's test has what the first one writes put in.
 const ROW: &str = "row 0
@@ -56,77 +56,89 @@ struct Taken {
     commands: usize,
 }
 
-fn take(alloc: Global, c: &LCommand, base: &Split) -> Result<Taken, Memory>
+fn take(rt: &impl Abort, alloc: Global, c: &LCommand, base: &Split) -> Taken
     requires walked { can_exec run_limit (plain_lcommand c.now) (state_of base.now) ≡ true }
     requires taken { can_exec run_limit (plain_lcommand c.now) (whole (values_of base.now.base.items)) ≡ true }
 {
-    let rows = table(alloc, c)?;
+    let rows = table(alloc, c).expect(rt, "memory");
     let place = row_at(rows.as_slice(), base);
-    let by_table = rows[place].copy(alloc)?;
-    let by_walk = walk(alloc, c, base)?;
-    let commands = taken(alloc, c, base.base.as_slice())?.len();
-    Ok(Taken {
+    let by_table = rows[place].copy(alloc).expect(rt, "memory");
+    drop(rows);
+    let by_walk = walk(alloc, c, base).expect(rt, "memory");
+    let taken = taken(alloc, c, base.base.as_slice()).expect(rt, "memory");
+    Taken {
         place,
         by_table,
         by_walk,
-        commands,
-    })
+        commands: taken.len(),
+    }
 }
 
 /// The row that a ground call takes at site 0, on a database that the sites have not written yet.
 fn take_by_call(
+    rt: &impl Abort,
     alloc: Global,
     w: &Accepted,
     declared: &Declarations,
     call: &GroundCall,
     database: &Database,
-) -> Result<Taken, Memory>
+) -> Taken
     requires declared { declared.now ≡ declarations (plain_workload w.now) }
     requires called { IsCalled (plain_workload w.now) (plain_ground call.now) }
     requires within { IsWithin (schema_of (plain_workload w.now)) database.now.items }
 {
     // its ground calls compute small numbers, and its bounds are small
     let _workload = w.workload();
-    let form = desugar(alloc, call, w, declared)?;
-    let shifted = transform(alloc, &form, 0, 2)?;
-    let base = undivided(alloc, database)?;
-    take(alloc, &shifted, &base)
+    let form = desugar(alloc, call, w, declared).expect(rt, "memory");
+    let shifted = transform(alloc, &form, 0, 2).expect(rt, "memory");
+    drop(form);
+    let base = undivided(rt, alloc, database);
+    let taken = take(rt, alloc, &shifted, &base);
+    drop(base);
+    drop(shifted);
+    taken
 }
 
 /// The row that a workload's first ground call takes so, at the starting values.
-fn take_first(alloc: Global, w: &Accepted) -> Result<Taken, Fail> {
-    let declared = Declarations::of(alloc, w)?;
-    let grounding = Grounding::of(alloc, w, &declared)?;
-    let call = first(w, grounding.calls())?;
-    let database = initial(alloc, w)?;
-    Ok(take_by_call(alloc, w, &declared, call, &database)?)
+fn take_first(rt: &impl Abort, alloc: Global, w: &Accepted) -> Taken {
+    let declared = Declarations::of(alloc, w).expect(rt, "memory");
+    let grounding = Grounding::of(alloc, w, &declared).expect(rt, "memory");
+    let call = first(rt, w, grounding.calls());
+    let database = initial(alloc, w).expect(rt, "memory");
+    let taken = take_by_call(rt, alloc, w, &declared, call, &database);
+    drop(grounding);
+    drop(declared);
+    taken
 }
 
-fn printed(alloc: Global, w: &Workload, place: usize, row: &Row) -> Result<Vec<u8>, Memory> {
-    let objects = ObjectNames::of(alloc, w)?;
+fn printed(rt: &impl Abort, alloc: Global, w: &Workload, place: usize, row: &Row) -> Vec<u8> {
+    let objects = ObjectNames::of(alloc, w).expect(rt, "memory");
     let mut out = Vec::new(alloc);
-    print_row(&mut out, w, &objects, place as u64, row)?;
-    Ok(out)
+    print_row(&mut out, w, &objects, place as u64, row).expect(rt, "memory");
+    drop(objects);
+    out
 }
 
 #[test]
-fn the_walk_gives_the_row_of_the_table(rt: HostRuntime) -> Result<(), Fail> {
+fn the_walk_gives_the_row_of_the_table(rt: HostRuntime) {
     let alloc = rt.alloc();
-    let w = accepted(&rt, alloc, TWICE)?;
-    let taken = take_first(alloc, &w)?;
-    let by_table = printed(alloc, w.workload(), taken.place, &taken.by_table)?;
-    let by_walk = printed(alloc, w.workload(), taken.place, &taken.by_walk)?;
+    let w = accepted(&rt, alloc, TWICE);
+    let taken = take_first(&rt, alloc, &w);
+    let by_table = printed(&rt, alloc, w.workload(), taken.place, &taken.by_table);
+    let by_walk = printed(&rt, alloc, w.workload(), taken.place, &taken.by_walk);
+    drop(taken);
+    drop(w);
     same_items(&rt, by_walk.as_slice(), ROW.as_bytes());
     same_items(&rt, by_table.as_slice(), ROW.as_bytes());
-    Ok(())
 }
 
 #[test]
-fn the_commands_taken_are_as_many_as_those_of_the_row(rt: HostRuntime) -> Result<(), Fail> {
+fn the_commands_taken_are_as_many_as_those_of_the_row(rt: HostRuntime) {
     let alloc = rt.alloc();
-    let w = accepted(&rt, alloc, FILL)?;
-    let taken = take_first(alloc, &w)?;
+    let w = accepted(&rt, alloc, FILL);
+    let taken = take_first(&rt, alloc, &w);
+    drop(w);
     same(&rt, &taken.by_walk.residual.as_slice().len(), &4);
     same(&rt, &taken.commands, &4);
-    Ok(())
+    drop(taken);
 }

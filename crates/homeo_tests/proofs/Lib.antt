@@ -1,5 +1,4 @@
 pub mod CallForms
-pub mod Example
 pub mod FirstCalls
 pub mod KeptResiduals
 pub mod RelationTexts

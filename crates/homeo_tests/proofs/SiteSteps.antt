@@ -57,7 +57,7 @@ pub policy_here :
 policy_here w v p base start work h = h ∙ ap₂ (λ (u : Workload) b. policy (plain_workload u) b) work (sym start)
 
 pub sites_there :
-    (inside given made : Workload) (held : Workload) → IsAccepted (plain_workload inside) → inside ≡ given →
-    plain_workload made ≡ plain_workload given → held ≡ made → 0 < sites_of (plain_workload held)
-sites_there inside given made held accepted is compiled shared =
-    subst (λ u. 0 < sites_of u) (ap plain_workload is ∙ sym compiled ∙ sym (ap plain_workload shared)) (some_sites (plain_workload inside) accepted)
+    (given made held : Workload) → IsAccepted (plain_workload given) → plain_workload made ≡ plain_workload given → held ≡ made →
+    0 < sites_of (plain_workload held)
+sites_there given made held accepted compiled shared =
+    subst (λ u. 0 < sites_of u) (sym compiled ∙ sym (ap plain_workload shared)) (some_sites (plain_workload given) accepted)

@@ -5,7 +5,6 @@ ghost use Rattle.homeo_notes.specs.Lines.{list_at};
 
 use homeo_notes::{Blank, Board, Holder, Naming};
 use std::marker::Brand;
-use std::test::Fail;
 
 fn is_shared<T: Sync>(_shared: &T) {}
 
@@ -46,8 +45,7 @@ fn agree_within<N: Naming + Send + Sync>(blank: Blank)
 }
 
 #[test]
-fn two_holders_agree(rt: HostRuntime) -> Result<(), Fail> {
-    let blank = Blank::new(rt.alloc(), 3).ok().ok_or("memory")?;
+fn two_holders_agree(rt: HostRuntime) {
+    let blank = Blank::new(rt.alloc(), 3).expect(&rt, "memory");
     agree_within::<Brand>(blank);
-    Ok(())
 }

@@ -8,14 +8,13 @@ use crate::shops::{
 };
 use homeo::Status;
 use homeo_cluster::OpenGate;
-use std::test::Fail;
 
 #[test]
-fn of_two_calls_that_break_at_once_one_closes_the_round(rt: HostRuntime) -> Result<(), Fail> {
+fn of_two_calls_that_break_at_once_one_closes_the_round(rt: HostRuntime) {
     let alloc = rt.alloc();
     let gate = Holds::third_calls();
-    let text = shop(alloc, THREE_EACH)?;
-    let output = output(&rt, alloc, &["run"], text.as_str(), &gate)?;
+    let text = shop(&rt, alloc, THREE_EACH);
+    let output = output(&rt, alloc, &["run"], text.as_str(), &gate);
     assert!(rt; !gate.was_late(&rt));
     let first_closes = b"round 0
 site 0
@@ -53,11 +52,10 @@ rounds 2 calls 6
 ";
     let bytes = output.as_slice();
     assert!(rt; bytes == first_closes.as_slice() || bytes == second_closes.as_slice());
-    Ok(())
 }
 
 #[test]
-fn a_local_call_needs_no_other_sites_lock(rt: HostRuntime) -> Result<(), Fail> {
+fn a_local_call_needs_no_other_sites_lock(rt: HostRuntime) {
     let gate = Holds::new([
         Hold {
             call: call(1, 1),
@@ -68,8 +66,8 @@ fn a_local_call_needs_no_other_sites_lock(rt: HostRuntime) -> Result<(), Fail> {
             until: call(1, 2),
         },
     ]);
-    let text = shop(rt.alloc(), THREE_AND_TWO)?;
-    let output = output(&rt, rt.alloc(), &["run"], text.as_str(), &gate)?;
+    let text = shop(&rt, rt.alloc(), THREE_AND_TWO);
+    let output = output(&rt, rt.alloc(), &["run"], text.as_str(), &gate);
     assert!(rt; !gate.was_late(&rt));
     let report = b"round 0
 site 0
@@ -88,14 +86,13 @@ stock = 0
 rounds 2 calls 5
 ";
     same_items(&rt, output.as_slice(), report.as_slice());
-    Ok(())
 }
 
 #[test]
-fn calls_of_one_site_are_not_inside_together(rt: HostRuntime) -> Result<(), Fail> {
+fn calls_of_one_site_are_not_inside_together(rt: HostRuntime) {
     let gate = HoldsFirst::new();
-    let text = shop(rt.alloc(), ONE_SITE)?;
-    let output = output(&rt, rt.alloc(), &["run"], text.as_str(), &gate)?;
+    let text = shop(&rt, rt.alloc(), ONE_SITE);
+    let output = output(&rt, rt.alloc(), &["run"], text.as_str(), &gate);
     assert!(rt; !gate.were_together(&rt));
     same(&rt, &gate.calls(&rt), &2);
     let a_first = b"round 0
@@ -118,37 +115,35 @@ rounds 1 calls 2
 ";
     let bytes = output.as_slice();
     assert!(rt; bytes == a_first.as_slice() || bytes == b_first.as_slice());
-    Ok(())
 }
 
 /// The third call of the first client breaks its treaty, and is made again.
 #[test]
-fn clients_need_no_schedule(rt: HostRuntime) -> Result<(), Fail> {
+fn clients_need_no_schedule(rt: HostRuntime) {
     let alloc = rt.alloc();
     let last_lines = b"database\nstock = 1\nrounds 2 calls 4\n";
     for clients in [THREE_AND_ONE, IN_ORDER] {
-        let text = shop(alloc, clients)?;
+        let text = shop(&rt, alloc, clients);
         let gate = CountsCalls::new(2);
-        let output = output(&rt, alloc, &["run"], text.as_str(), &gate)?;
+        let output = output(&rt, alloc, &["run"], text.as_str(), &gate);
         assert!(rt; output.as_slice().ends_with(last_lines.as_slice()));
         assert!(rt; gate.times(&rt).as_slice().starts_with(&[1, 1, 1, 1, 0, 0]));
         same(&rt, &gate.elsewhere(&rt), &0);
     }
-    let text = shop(alloc, THREE_AND_ONE)?;
-    let refused = run_words(&rt, alloc, &["steps"], text.as_str(), &OpenGate)?;
+    let text = shop(&rt, alloc, THREE_AND_ONE);
+    let refused = run_words(&rt, alloc, &["steps"], text.as_str(), &OpenGate);
     same(&rt, &refused.status, &Status::Refused);
     same_items(
         &rt,
         refused.complaint.as_slice(),
         b"refused E14 at 224\n".as_slice(),
     );
-    Ok(())
 }
 
 #[test]
-fn a_schedule_is_checked_where_it_is_not_used(rt: HostRuntime) -> Result<(), Fail> {
-    let text = shop(rt.alloc(), SHORT_ORDER)?;
-    let refused = run_words(&rt, rt.alloc(), &["run"], text.as_str(), &OpenGate)?;
+fn a_schedule_is_checked_where_it_is_not_used(rt: HostRuntime) {
+    let text = shop(&rt, rt.alloc(), SHORT_ORDER);
+    let refused = run_words(&rt, rt.alloc(), &["run"], text.as_str(), &OpenGate);
     same(&rt, &refused.status, &Status::Refused);
     same_items(&rt, refused.output.as_slice(), b"".as_slice());
     same_items(
@@ -156,5 +151,4 @@ fn a_schedule_is_checked_where_it_is_not_used(rt: HostRuntime) -> Result<(), Fai
         refused.complaint.as_slice(),
         b"refused E14 at 239\n".as_slice(),
     );
-    Ok(())
 }

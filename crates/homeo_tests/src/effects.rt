@@ -1,9 +1,7 @@
 //! What the first call of a text does at its own site, and what of the site's treaty it touches.
 
-ghost use Rattle.std.specs.Prelude.{◌≡◌};
 ghost use Rattle.homeo_syntax.specs.SourceView.{plain_workload};
 ghost use Rattle.homeo_build.specs.Plan.{IsObjectPlan};
-ghost use Rattle.homeo_print.specs.Names.{object_names};
 
 use crate::same::same_items;
 use crate::shops::{THREE_AND_ONE, accepted, shop};
@@ -17,11 +15,10 @@ use homeo_follow::ObjectPlan;
 use homeo_meaning::Database;
 use homeo_plan::Row;
 use homeo_print::{ObjectNames, print_row};
-use homeo_syntax::{LCommand, LCond, List, Memory, Workload};
+use homeo_syntax::{LCommand, LCond, List, Workload};
 use std::alloc::Global;
 use std::process::Abort;
 use std::sync::Arc;
-use std::test::Fail;
 
 /// The first client prints what the second one raises.
 const SHOWN: &str = "workload 1
@@ -37,29 +34,33 @@ end
 
 /// What the first ground call does at its own site, in a round that begins at a base.
 fn first_effects(
+    rt: &impl Abort,
     alloc: Global,
     c: &Compiled,
     base: &Database,
     plan: &Arc<ObjectPlan>,
-) -> Result<SiteEffects, Fail>
+) -> SiteEffects
     requires plan { IsObjectPlan (plain_workload c.now) base.now.items plan.now.value }
 {
     let _workload = c.workload().workload();
     let template = &plan.template;
     if template.clauses.as_slice().len() > 9 || template.freezes.as_slice().len() > 9 {
-        return Err(Fail::from("a small treaty"));
+        panic!(rt; "a small treaty");
     }
     if c.calls().is_empty() {
-        return Err(Fail::from("a call"));
+        panic!(rt; "a call");
     }
-    let residual = residual(alloc, c, base, 0)?;
-    let index = TreatyIndex::of(alloc, plan, residual.site)?;
-    Ok(effects(alloc, &residual, &index, base)?)
+    let residual = residual(alloc, c, base, 0).expect(rt, "memory");
+    let index = TreatyIndex::of(alloc, plan, residual.site).expect(rt, "memory");
+    let effects = effects(alloc, &residual, &index, base).expect(rt, "memory");
+    drop(index);
+    drop(residual);
+    effects
 }
 
 /// The commands as those of a row without tests.
-fn printed(alloc: Global, w: &Workload, commands: List<LCommand>) -> Result<Vec<u8>, Memory> {
-    let objects = ObjectNames::of(alloc, w)?;
+fn printed(rt: &impl Abort, alloc: Global, w: &Workload, commands: List<LCommand>) -> Vec<u8> {
+    let objects = ObjectNames::of(alloc, w).expect(rt, "memory");
     let formula = LCond {
         tests: List::new(alloc),
     };
@@ -68,15 +69,19 @@ fn printed(alloc: Global, w: &Workload, commands: List<LCommand>) -> Result<Vec<
         residual: commands,
     };
     let mut out = Vec::new(alloc);
-    print_row(&mut out, w, &objects, 0, &row)?;
-    Ok(out)
+    print_row(&mut out, w, &objects, 0, &row).expect(rt, "memory");
+    drop(row);
+    drop(objects);
+    out
 }
 
 /// That of the round that begins at the starting values.
-fn effects_at_start(alloc: Global, c: &Compiled) -> Result<SiteEffects, Fail> {
-    let base = initial(alloc, c.workload())?;
-    let plan = plan_at(alloc, c, &base)?;
-    first_effects(alloc, c, &base, &plan)
+fn effects_at_start(rt: &impl Abort, alloc: Global, c: &Compiled) -> SiteEffects {
+    let base = initial(alloc, c.workload()).expect(rt, "memory");
+    let plan = plan_at(alloc, c, &base).expect(rt, "memory");
+    let effects = first_effects(rt, alloc, c, &base, &plan);
+    drop(plan);
+    effects
 }
 
 /// The commands that the first ground call is at its own site in the round that begins at the starting values, as a text, and the
@@ -88,34 +93,35 @@ struct Touch {
     freezes: List<u32>,
 }
 
-fn first_touched(alloc: Global, c: &Compiled) -> Result<Touch, Fail> {
-    let effects = effects_at_start(alloc, c)?;
-    let text = printed(alloc, c.workload().workload(), effects.commands)?;
-    Ok(Touch {
+fn first_touched(rt: &impl Abort, alloc: Global, c: &Compiled) -> Touch {
+    let effects = effects_at_start(rt, alloc, c);
+    let text = printed(rt, alloc, c.workload().workload(), effects.commands);
+    Touch {
         text,
         clauses: effects.clauses,
         freezes: effects.freezes,
-    })
+    }
 }
 
 /// That of a text.
-fn touched(rt: &impl Abort, alloc: Global, text: &str) -> Result<Touch, Fail> {
-    let w = accepted(rt, alloc, text)?;
-    let c = compile(alloc, w)?;
-    first_touched(alloc, &c)
+fn touched(rt: &impl Abort, alloc: Global, text: &str) -> Touch {
+    let w = accepted(rt, alloc, text);
+    let c = compile(alloc, w).expect(rt, "memory");
+    let touch = first_touched(rt, alloc, &c);
+    drop(c);
+    touch
 }
 
 #[test]
-fn a_call_touches_what_it_writes_at_its_site(rt: HostRuntime) -> Result<(), Fail> {
+fn a_call_touches_what_it_writes_at_its_site(rt: HostRuntime) {
     let alloc = rt.alloc();
-    let text = shop(alloc, THREE_AND_ONE)?;
-    let sale = touched(&rt, alloc, text.as_str())?;
+    let text = shop(&rt, alloc, THREE_AND_ONE);
+    let sale = touched(&rt, alloc, text.as_str());
     let commands = b"do { s := 5 + stock@0 + 0; write(stock@0 = (s + -1) + -5 + 0); print(1) }\n";
     assert!(rt; sale.text.as_slice().ends_with(commands.as_slice()));
     same_items(&rt, sale.clauses.as_slice(), [0, 1].as_slice());
     same_items(&rt, sale.freezes.as_slice(), [].as_slice());
-    let print = touched(&rt, alloc, SHOWN)?;
+    let print = touched(&rt, alloc, SHOWN);
     same_items(&rt, print.clauses.as_slice(), [].as_slice());
     same_items(&rt, print.freezes.as_slice(), [].as_slice());
-    Ok(())
 }

@@ -3,7 +3,6 @@
 use crate::runs::{Given, check, plain};
 use crate::texts::{NOTHING_BEHIND_THE_HEAD, STOCK, STOCK_REPORT};
 use homeo::Status;
-use std::test::Fail;
 
 /// A command, a text on which its output is always the same, that output, and how many bytes a call of a stream moves at most. A
 /// load reads no text.
@@ -72,7 +71,7 @@ fn reads_of(text: &str, piece: usize) -> u64 {
 }
 
 #[test]
-fn each_read_fails_in_turn(rt: HostRuntime) -> Result<(), Fail> {
+fn each_read_fails_in_turn(rt: HostRuntime) {
     for (words, text, output, piece) in CASES {
         let by_pieces = Given {
             read_piece: piece,
@@ -86,19 +85,18 @@ fn each_read_fails_in_turn(rt: HostRuntime) -> Result<(), Fail> {
                 ..by_pieces
             };
             let (fault, said) = (Status::ReadFault, "read fault\n");
-            check(&rt, rt.alloc(), given, fault, "", said)?;
+            check(&rt, rt.alloc(), given, fault, "", said);
         }
         let later = Given {
             read_fails: reads.saturating_add(1),
             ..by_pieces
         };
-        check(&rt, rt.alloc(), later, Status::Done, output, "")?;
+        check(&rt, rt.alloc(), later, Status::Done, output, "");
     }
-    Ok(())
 }
 
 #[test]
-fn each_write_fails_in_turn(rt: HostRuntime) -> Result<(), Fail> {
+fn each_write_fails_in_turn(rt: HostRuntime) {
     for (words, text, output, piece) in CASES {
         let by_pieces = Given {
             read_piece: piece,
@@ -113,57 +111,56 @@ fn each_write_fails_in_turn(rt: HostRuntime) -> Result<(), Fail> {
             };
             let taken = output
                 .get(0..before.saturating_mul(piece))
-                .ok_or("the output is as long")?;
+                .expect(&rt, "an output as long");
             let (fault, said) = (Status::WriteFault, "write fault\n");
-            check(&rt, rt.alloc(), given, fault, taken, said)?;
+            check(&rt, rt.alloc(), given, fault, taken, said);
         }
         let later = Given {
             write_fails: (writes as u64).saturating_add(1),
             ..by_pieces
         };
-        check(&rt, rt.alloc(), later, Status::Done, output, "")?;
+        check(&rt, rt.alloc(), later, Status::Done, output, "");
         let by_bytes = Given {
             read_piece: 1,
             write_piece: 1,
             ..plain(words, text)
         };
-        check(&rt, rt.alloc(), by_bytes, Status::Done, output, "")?;
+        check(&rt, rt.alloc(), by_bytes, Status::Done, output, "");
     }
-    Ok(())
 }
 
 #[test]
-fn a_complaint_that_fails_changes_no_status(rt: HostRuntime) -> Result<(), Fail> {
+fn a_complaint_that_fails_changes_no_status(rt: HostRuntime) {
     let alloc = rt.alloc();
     let failing = Given {
         complaint_fails: 1,
         ..plain(&["steps"], STOCK)
     };
-    check(&rt, alloc, failing, Status::Done, STOCK_REPORT, "")?;
+    check(&rt, alloc, failing, Status::Done, STOCK_REPORT, "");
     let words = Given {
         words: &[],
         ..failing
     };
-    check(&rt, alloc, words, Status::Usage, "", "")?;
+    check(&rt, alloc, words, Status::Usage, "", "");
     let text = Given {
         text: NOTHING_BEHIND_THE_HEAD,
         ..failing
     };
-    check(&rt, alloc, text, Status::Refused, "", "")?;
+    check(&rt, alloc, text, Status::Refused, "", "");
     // sixteen bytes of the line, and not its end
     let cut = Given {
         complaint_fails: 2,
         ..text
     };
-    check(&rt, alloc, cut, Status::Refused, "", "refused E4 at 19")?;
+    check(&rt, alloc, cut, Status::Refused, "", "refused E4 at 19");
     let reading = Given {
         read_fails: 1,
         ..failing
     };
-    check(&rt, alloc, reading, Status::ReadFault, "", "")?;
+    check(&rt, alloc, reading, Status::ReadFault, "", "");
     let writing = Given {
         write_fails: 1,
         ..failing
     };
-    check(&rt, alloc, writing, Status::WriteFault, "", "")
+    check(&rt, alloc, writing, Status::WriteFault, "", "");
 }

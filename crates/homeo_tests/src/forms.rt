@@ -1,6 +1,6 @@
 //! The calls of workloads with relations, and of those that end themselves, each run by itself and by its L form.
 
-ghost use Rattle.std.specs.Prelude.{◌≡◌, [], All, map, IfOk};
+ghost use Rattle.std.specs.Prelude.{◌≡◌, [], All, map};
 ghost use Rattle.homeo_syntax.specs.SourceView.{plain_workload};
 ghost use Rattle.homeo_meaning.specs.Bounds.{IsWithin};
 ghost use Rattle.homeo_meaning.specs.Declarations.{declarations};
@@ -10,17 +10,15 @@ ghost use Rattle.homeo_ground.specs.Grounding.{IsCalled};
 
 use crate::same::same_items;
 use crate::texts::{ENDED, LIMITED_SLOTS};
-use homeo_accept::TextRefusal;
 use homeo_context::Declarations;
 use homeo_desugar::desugar;
 use homeo_eval::{eval, initial};
 use homeo_ground::Grounding;
 use homeo_meaning::{Accepted, Database, GroundCall, Purpose};
 use homeo_split::{Split, eval_l};
-use homeo_syntax::{List, Memory, Prints};
-use std::alloc::{AllocError, Global};
+use homeo_syntax::{List, Prints};
+use std::alloc::Global;
 use std::process::Abort;
-use std::test::Fail;
 
 /// Orders are taken while a slot is free, paid for, shipped and counted: by each command and each expression over rows.
 const ORDERS: &str = "workload 1
@@ -79,25 +77,21 @@ end
 ";
 
 /// Reads a text that is accepted.
-fn accepted(rt: &impl Abort, alloc: Global, text: &str) -> Result<Accepted, Fail> {
+fn accepted(rt: &impl Abort, alloc: Global, text: &str) -> Accepted {
     assert!(rt; text.len() <= 1_048_576);
-    match homeo_accept::accepted(alloc, text.as_bytes(), Purpose::Steps) {
-        Ok(w) => Ok(w),
-        Err(TextRefusal::Memory) => Err(Fail::from(AllocError)),
-        Err(TextRefusal::Refused(refusal)) => panic!(rt; "refused {refusal:?}"),
-    }
+    homeo_accept::accepted(alloc, text.as_bytes(), Purpose::Steps).expect(rt, "an accepted text")
 }
 
 /// The database at one place: it is not split yet.
-fn whole(alloc: Global, database: &Database) -> Result<Split, Memory>
-    ensures base { IfOk result (λ s. s.base.items ≡ database.now.items) }
-    ensures deltas { IfOk result (λ s. s.deltas.items ≡ []) }
+fn whole(rt: &impl Abort, alloc: Global, database: &Database) -> Split
+    ensures base { result.base.items ≡ database.now.items }
+    ensures deltas { result.deltas.items ≡ [] }
 {
-    let base = Vec::from_slice(alloc, database.as_slice())?;
-    Ok(Split {
+    let base = Vec::from_slice(alloc, database.as_slice()).expect(rt, "memory");
+    Split {
         base: List::from_vec(base),
         deltas: List::new(alloc),
-    })
+    }
 }
 
 /// Runs a ground call on a database, by itself and by its L form, compares what they print and leave, and gives the prints.
@@ -108,20 +102,23 @@ fn run_both(
     declared: &Declarations,
     call: &GroundCall,
     database: &mut Database,
-) -> Result<Prints, Fail>
+) -> Prints
     requires declared { declared.now ≡ declarations (plain_workload w.now) }
     requires called { IsCalled (plain_workload w.now) (plain_ground call.now) }
     requires within { IsWithin (schema_of (plain_workload w.now)) database.old.items }
     ensures within { IsWithin (schema_of (plain_workload w.now)) database.new.items }
 {
-    let form = desugar(alloc, call, w, declared)?;
-    let mut split = whole(alloc, database)?;
+    let form = desugar(alloc, call, w, declared).expect(rt, "memory");
+    let mut split = whole(rt, alloc, database);
     assert!(rt; split.has_places(&form));
-    let printed = eval_l(alloc, &form, &mut split)?;
-    let prints = eval(alloc, w, call.transaction, call.args.as_slice(), database)?;
+    let printed = eval_l(alloc, &form, &mut split).expect(rt, "memory");
+    drop(form);
+    let args = call.args.as_slice();
+    let prints = eval(alloc, w, call.transaction, args, database).expect(rt, "memory");
     same_items(rt, printed.as_slice(), prints.as_slice());
     same_items(rt, split.base.as_slice(), database.as_slice());
-    Ok(prints)
+    drop(split);
+    prints
 }
 
 /// Runs the ground calls one after another, and gives the prints of each.
@@ -132,7 +129,7 @@ fn run_round(
     declared: &Declarations,
     calls: &[GroundCall],
     database: &mut Database,
-) -> Result<Vec<Prints>, Fail>
+) -> Vec<Prints>
     requires declared { declared.now ≡ declarations (plain_workload w.now) }
     requires called { All (IsCalled (plain_workload w.now)) (map plain_ground calls.now) }
     requires within { IsWithin (schema_of (plain_workload w.now)) database.old.items }
@@ -140,70 +137,72 @@ fn run_round(
 {
     let mut logs = Vec::new(alloc);
     for call in calls {
-        logs.push(run_both(rt, alloc, w, declared, call, database)?)?;
+        let prints = run_both(rt, alloc, w, declared, call, database);
+        logs.push(prints).expect(rt, "memory");
     }
-    Ok(logs)
+    logs
 }
 
 /// Runs a workload's ground calls from its first database on, the given number of times, and gives the last database.
-fn run_rounds(
-    rt: &impl Abort,
-    alloc: Global,
-    w: &Accepted,
-    rounds: usize,
-) -> Result<Database, Fail> {
-    let declared = Declarations::of(alloc, w)?;
-    let grounding = Grounding::of(alloc, w, &declared)?;
-    let mut database = initial(alloc, w)?;
+fn run_rounds(rt: &impl Abort, alloc: Global, w: &Accepted, rounds: usize) -> Database {
+    let declared = Declarations::of(alloc, w).expect(rt, "memory");
+    let grounding = Grounding::of(alloc, w, &declared).expect(rt, "memory");
+    let mut database = initial(alloc, w).expect(rt, "memory");
     for _ in 0..rounds {
-        let _logs = run_round(rt, alloc, w, &declared, grounding.calls(), &mut database)?;
+        let logs = run_round(rt, alloc, w, &declared, grounding.calls(), &mut database);
+        drop(logs);
     }
-    Ok(database)
+    drop(grounding);
+    drop(declared);
+    database
 }
 
 #[test]
-fn slots_are_filled_until_none_is_left(rt: HostRuntime) -> Result<(), Fail> {
+fn slots_are_filled_until_none_is_left(rt: HostRuntime) {
     let alloc = rt.alloc();
-    let w = accepted(&rt, alloc, LIMITED_SLOTS)?;
-    let database = run_rounds(&rt, alloc, &w, 5)?;
+    let w = accepted(&rt, alloc, LIMITED_SLOTS);
+    let database = run_rounds(&rt, alloc, &w, 5);
+    drop(w);
     same_items(
         &rt,
         database.as_slice(),
         [1, 7, 1, 7, 1, 7, 1, 7].as_slice(),
     );
-    Ok(())
 }
 
 #[test]
-fn orders_are_taken_paid_and_shipped(rt: HostRuntime) -> Result<(), Fail> {
+fn orders_are_taken_paid_and_shipped(rt: HostRuntime) {
     let alloc = rt.alloc();
-    let w = accepted(&rt, alloc, ORDERS)?;
-    let database = run_rounds(&rt, alloc, &w, 3)?;
+    let w = accepted(&rt, alloc, ORDERS);
+    let database = run_rounds(&rt, alloc, &w, 3);
+    drop(w);
     same_items(
         &rt,
         database.as_slice(),
         [0, 1, 1, 2, 0, 1, 4, 0].as_slice(),
     );
-    Ok(())
 }
 
 #[test]
-fn a_call_that_ends_itself_writes_nothing(rt: HostRuntime) -> Result<(), Fail> {
+fn a_call_that_ends_itself_writes_nothing(rt: HostRuntime) {
     let alloc = rt.alloc();
-    let w = accepted(&rt, alloc, TAKEN_BACK)?;
-    let database = run_rounds(&rt, alloc, &w, 3)?;
+    let w = accepted(&rt, alloc, TAKEN_BACK);
+    let database = run_rounds(&rt, alloc, &w, 3);
+    drop(w);
     same_items(&rt, database.as_slice(), [14, 1, 4, 1, 1].as_slice());
-    Ok(())
 }
 
 #[test]
-fn a_call_that_ends_itself_keeps_its_prints(rt: HostRuntime) -> Result<(), Fail> {
+fn a_call_that_ends_itself_keeps_its_prints(rt: HostRuntime) {
     let alloc = rt.alloc();
-    let w = accepted(&rt, alloc, ENDED)?;
-    let declared = Declarations::of(alloc, &w)?;
-    let grounding = Grounding::of(alloc, &w, &declared)?;
-    let mut database = initial(alloc, &w)?;
-    let logs = run_round(&rt, alloc, &w, &declared, grounding.calls(), &mut database)?;
+    let w = accepted(&rt, alloc, ENDED);
+    let declared = Declarations::of(alloc, &w).expect(&rt, "memory");
+    let grounding = Grounding::of(alloc, &w, &declared).expect(&rt, "memory");
+    let mut database = initial(alloc, &w).expect(&rt, "memory");
+    let logs = run_round(&rt, alloc, &w, &declared, grounding.calls(), &mut database);
+    drop(grounding);
+    drop(declared);
+    drop(w);
     match logs.as_slice() {
         [whole, ended] => {
             same_items(&rt, whole.as_slice(), [3, 9].as_slice());
@@ -212,5 +211,4 @@ fn a_call_that_ends_itself_keeps_its_prints(rt: HostRuntime) -> Result<(), Fail>
         _ => panic!(rt; "two logs"),
     }
     same_items(&rt, database.as_slice(), [3].as_slice());
-    Ok(())
 }

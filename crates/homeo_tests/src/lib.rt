@@ -15,8 +15,6 @@ mod certificates;
 #[cfg(test)]
 mod effects;
 #[cfg(test)]
-mod evaluation;
-#[cfg(test)]
 mod faults;
 #[cfg(test)]
 mod forms;
@@ -30,8 +28,6 @@ mod market;
 mod merges;
 #[cfg(test)]
 mod outputs;
-#[cfg(test)]
-mod printing;
 #[cfg(test)]
 mod refusals;
 #[cfg(test)]
@@ -47,15 +43,11 @@ mod shops;
 #[cfg(test)]
 mod sites;
 #[cfg(test)]
-mod sizes;
-#[cfg(test)]
 mod steps;
 #[cfg(test)]
 mod streams;
 #[cfg(test)]
 mod texts;
-#[cfg(test)]
-mod values;
 #[cfg(test)]
 mod wires;
 #[cfg(test)]

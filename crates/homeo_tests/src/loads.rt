@@ -7,45 +7,45 @@ use homeo_cluster::OpenGate;
 use homeo_load::accepted_load;
 use homeo_syntax::Workload;
 use std::alloc::Global;
-use std::test::Fail;
+use std::process::Abort;
 
 /// For each object the sum of the numbers that a load's calls add to it.
-fn sums(alloc: Global, w: &Workload) -> Result<Vec<i64>, Fail> {
-    let mut sums = vec![in alloc; 0i64; 8]?;
+fn sums(rt: &impl Abort, alloc: Global, w: &Workload) -> Vec<i64> {
+    let mut sums = vec![in alloc; 0i64; 8].expect(rt, "memory");
     for client in w.clients.as_slice() {
         for call in client.calls.as_slice() {
             let name = call.name.name as usize;
             let object = if name == 8 {
                 0
             } else {
-                name.checked_sub(9).ok_or("a name")?
+                name.checked_sub(9).expect(rt, "a name")
             };
-            let number = call.args.as_slice().first().ok_or("a number")?.value;
-            let sum = sums.get_mut(object).ok_or("an object")?;
-            *sum = sum.checked_add(number).ok_or("a sum")?;
+            let number = call.args.as_slice().first().expect(rt, "a number").value;
+            let sum = sums.get_mut(object).expect(rt, "an object");
+            *sum = sum.checked_add(number).expect(rt, "a sum");
         }
     }
-    Ok(sums)
+    sums
 }
 
 #[test]
-fn one_call_adds_eight_to_the_fifth_object(rt: HostRuntime) -> Result<(), Fail> {
-    let w = accepted_load(rt.alloc(), 1, 1)?;
-    let sums = sums(rt.alloc(), w.workload())?;
+fn one_call_adds_eight_to_the_fifth_object(rt: HostRuntime) {
+    let w = accepted_load(rt.alloc(), 1, 1).expect(&rt, "memory");
+    let sums = sums(&rt, rt.alloc(), w.workload());
+    drop(w);
     same_items(&rt, sums.as_slice(), [0, 0, 0, 0, 8, 0, 0, 0].as_slice());
-    Ok(())
 }
 
 #[test]
-fn the_largest_load_has_the_sums_of_a_plain_loop(rt: HostRuntime) -> Result<(), Fail> {
-    let w = accepted_load(rt.alloc(), 7, 20_000)?;
-    let sums = sums(rt.alloc(), w.workload())?;
+fn the_largest_load_has_the_sums_of_a_plain_loop(rt: HostRuntime) {
+    let w = accepted_load(rt.alloc(), 7, 20_000).expect(&rt, "memory");
+    let sums = sums(&rt, rt.alloc(), w.workload());
     let wanted = [12581, 12764, 12141, 12682, 12462, 12748, 12271, 12390];
     same_items(&rt, sums.as_slice(), wanted.as_slice());
     for client in w.workload().clients.as_slice() {
         same(&rt, &client.calls.as_slice().len(), &2500);
     }
-    Ok(())
+    drop(w);
 }
 
 /// A text that no command accepts, and that a load doesn't read.
@@ -53,9 +53,9 @@ const UNREAD: &str = "this is not read";
 
 /// Two calls of each client.
 #[test]
-fn a_load_makes_each_call_once_at_its_clients_site(rt: HostRuntime) -> Result<(), Fail> {
+fn a_load_makes_each_call_once_at_its_clients_site(rt: HostRuntime) {
     let gate = CountsCalls::new(4);
-    let output = output(&rt, rt.alloc(), &["load", "1", "16"], UNREAD, &gate)?;
+    let output = output(&rt, rt.alloc(), &["load", "1", "16"], UNREAD, &gate);
     let summary = b"calls 16
 prints 16
 c0 = 0
@@ -72,11 +72,10 @@ c7 = 4
         same_items(&rt, calls, [1, 1, 0].as_slice());
     }
     same(&rt, &gate.elsewhere(&rt), &0);
-    Ok(())
 }
 
 #[test]
-fn the_largest_load_has_one_output(rt: HostRuntime) -> Result<(), Fail> {
+fn the_largest_load_has_one_output(rt: HostRuntime) {
     let summary = b"calls 20000
 prints 20000
 c0 = 12581
@@ -89,8 +88,7 @@ c6 = 12271
 c7 = 12390
 ";
     for _ in 0..2 {
-        let output = output(&rt, rt.alloc(), &["load", "7", "20000"], UNREAD, &OpenGate)?;
+        let output = output(&rt, rt.alloc(), &["load", "7", "20000"], UNREAD, &OpenGate);
         same_items(&rt, output.as_slice(), summary.as_slice());
     }
-    Ok(())
 }

@@ -5,7 +5,6 @@ use crate::same::same;
 use homeo_cluster::OpenGate;
 use std::alloc::Global;
 use std::process::Abort;
-use std::test::Fail;
 
 /// How many items there are, each with a stock of 60 and a transaction of its own.
 const ITEMS: u32 = 10;
@@ -19,50 +18,49 @@ const CALLS: u32 = 40;
 /// How many orders can be written down.
 const SLOTS: u32 = 16;
 
-fn push_item(text: &mut String, alloc: Global, item: u32) -> Result<(), Fail> {
-    let line = format!(in alloc; "object item{item} in 0..100 = 60\n")?;
-    text.push_str(line.as_str())?;
-    Ok(())
+fn push_item(rt: &impl Abort, text: &mut String, alloc: Global, item: u32) {
+    let line = format!(in alloc; "object item{item} in 0..100 = 60\n").expect(rt, "memory");
+    text.push_str(line.as_str()).expect(rt, "memory");
 }
 
-fn push_transaction(text: &mut String, alloc: Global, item: u32) -> Result<(), Fail> {
+fn push_transaction(rt: &impl Abort, text: &mut String, alloc: Global, item: u32) {
     let head = format!(in alloc;
         "transaction buy{item}(n in 1..3) {{ s := read(item{item}); if n <= s then {{ "
-    )?;
+    ).expect(rt, "memory");
     let sale = format!(in alloc;
         "write(item{item} = s - n); insert orders (item = {item}, n = n) into o; print(o) "
-    )?;
-    text.push_str(head.as_str())?;
-    text.push_str(sale.as_str())?;
-    text.push_str("} else print(0) }\n")?;
-    Ok(())
+    ).expect(rt, "memory");
+    text.push_str(head.as_str()).expect(rt, "memory");
+    text.push_str(sale.as_str()).expect(rt, "memory");
+    text.push_str("} else print(0) }\n").expect(rt, "memory");
 }
 
-fn push_client(text: &mut String, alloc: Global, client: u32) -> Result<(), Fail> {
-    let head = format!(in alloc; "client c{client} at {} {{ buy0(1)", client / 2)?;
-    text.push_str(head.as_str())?;
+fn push_client(rt: &impl Abort, text: &mut String, alloc: Global, client: u32) {
+    let site = client / 2;
+    let head = format!(in alloc; "client c{client} at {site} {{ buy0(1)").expect(rt, "memory");
+    text.push_str(head.as_str()).expect(rt, "memory");
     for call in 1..CALLS {
-        let next = format!(in alloc; "; buy{}(1)", call % ITEMS)?;
-        text.push_str(next.as_str())?;
+        let next = format!(in alloc; "; buy{}(1)", call % ITEMS).expect(rt, "memory");
+        text.push_str(next.as_str()).expect(rt, "memory");
     }
-    text.push_str(" }\n")?;
-    Ok(())
+    text.push_str(" }\n").expect(rt, "memory");
 }
 
-fn market(alloc: Global) -> Result<String, Fail> {
-    let mut text = String::from_str(alloc, "workload 1\nsites 3\n")?;
+fn market(rt: &impl Abort, alloc: Global) -> String {
+    let mut text = String::from_str(alloc, "workload 1\nsites 3\n").expect(rt, "memory");
     for item in 0..ITEMS {
-        push_item(&mut text, alloc, item)?;
+        push_item(rt, &mut text, alloc, item);
     }
-    text.push_str("relation orders[16] (item in 0..9, n in 1..3)\n")?;
+    let orders = "relation orders[16] (item in 0..9, n in 1..3)\n";
+    text.push_str(orders).expect(rt, "memory");
     for item in 0..ITEMS {
-        push_transaction(&mut text, alloc, item)?;
+        push_transaction(rt, &mut text, alloc, item);
     }
     for client in 0..CLIENTS {
-        push_client(&mut text, alloc, client)?;
+        push_client(rt, &mut text, alloc, client);
     }
-    text.push_str("end\n")?;
-    Ok(text)
+    text.push_str("end\n").expect(rt, "memory");
+    text
 }
 
 fn stands_once(report: &str, piece: &str) -> bool {
@@ -70,49 +68,45 @@ fn stands_once(report: &str, piece: &str) -> bool {
 }
 
 // Each call of each client stands in the report once.
-fn check_calls(rt: &impl Abort, alloc: Global, report: &str) -> Result<(), Fail> {
+fn check_calls(rt: &impl Abort, alloc: Global, report: &str) {
     for client in 0..CLIENTS {
         for call in 0..CALLS {
-            let line = format!(in alloc; "\nc{client} {} buy{}(1): ", call + 1, call % ITEMS)?;
+            let (seq, item) = (call + 1, call % ITEMS);
+            let line = format!(in alloc; "\nc{client} {seq} buy{item}(1): ").expect(rt, "memory");
             assert!(rt; stands_once(report, line.as_str()));
         }
     }
     assert!(rt; report.ends_with(" calls 240\n"));
-    Ok(())
 }
 
 // Four of each item were sold to each client, and all slots are used.
-fn check_database(rt: &impl Abort, alloc: Global, report: &str) -> Result<(), Fail> {
+fn check_database(rt: &impl Abort, alloc: Global, report: &str) {
     for item in 0..ITEMS {
-        let line = format!(in alloc; "\nitem{item} = 36\n")?;
+        let line = format!(in alloc; "\nitem{item} = 36\n").expect(rt, "memory");
         assert!(rt; stands_once(report, line.as_str()));
     }
     for slot in 0..SLOTS {
-        let line = format!(in alloc; "\norders.{slot}.used = 1\n")?;
+        let line = format!(in alloc; "\norders.{slot}.used = 1\n").expect(rt, "memory");
         assert!(rt; stands_once(report, line.as_str()));
     }
-    Ok(())
 }
 
 // Each order's number was printed once, and 0 by each other call.
-fn check_prints(rt: &impl Abort, alloc: Global, report: &str) -> Result<(), Fail> {
+fn check_prints(rt: &impl Abort, alloc: Global, report: &str) {
     for order in 1..=SLOTS {
-        let end = format!(in alloc; ": {order}\n")?;
+        let end = format!(in alloc; ": {order}\n").expect(rt, "memory");
         assert!(rt; stands_once(report, end.as_str()));
     }
     same(rt, &report.matches(": 0\n").count(), &224);
-    Ok(())
 }
 
 #[test]
-fn a_market_sells_each_piece_once(rt: HostRuntime) -> Result<(), Fail> {
+fn a_market_sells_each_piece_once(rt: HostRuntime) {
     let alloc = rt.alloc();
-    let text = market(alloc)?;
-    let bytes = output(&rt, alloc, &["run"], text.as_str(), &OpenGate)?;
-    let Ok(report) = str::from_utf8(bytes.as_slice()) else {
-        return Err(Fail::from("a report is a text"));
-    };
-    check_calls(&rt, alloc, report)?;
-    check_database(&rt, alloc, report)?;
-    check_prints(&rt, alloc, report)
+    let text = market(&rt, alloc);
+    let bytes = output(&rt, alloc, &["run"], text.as_str(), &OpenGate);
+    let report = str::from_utf8(bytes.as_slice()).expect(&rt, "a text");
+    check_calls(&rt, alloc, report);
+    check_database(&rt, alloc, report);
+    check_prints(&rt, alloc, report);
 }

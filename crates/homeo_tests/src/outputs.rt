@@ -4,10 +4,10 @@ use crate::runs::{check, plain};
 use crate::texts::{ENDED, LIMITED_SLOTS, ONE_WRITER, STOCK, WEIGHTED_STOCK};
 use homeo::Status;
 use std::alloc::Global;
-use std::test::Fail;
+use std::process::Abort;
 
 #[test]
-fn calls_are_reported_with_their_rounds(rt: HostRuntime) -> Result<(), Fail> {
+fn calls_are_reported_with_their_rounds(rt: HostRuntime) {
     for (text, report) in [
         // nothing is declared
         (
@@ -81,20 +81,19 @@ fn calls_are_reported_with_their_rounds(rt: HostRuntime) -> Result<(), Fail> {
         ),
     ] {
         let given = plain(&["steps"], text);
-        check(&rt, rt.alloc(), given, Status::Done, report, "")?;
+        check(&rt, rt.alloc(), given, Status::Done, report, "");
     }
-    Ok(())
 }
 
 #[test]
-fn no_call_has_one_joint_row(rt: HostRuntime) -> Result<(), Fail> {
+fn no_call_has_one_joint_row(rt: HostRuntime) {
     let given = plain(&["tables"], "workload 1\nsites 1\nend\n");
     let joint = "joint 1\npick\n";
-    check(&rt, rt.alloc(), given, Status::Done, joint, "")
+    check(&rt, rt.alloc(), given, Status::Done, joint, "");
 }
 
 #[test]
-fn treaties_are_written(rt: HostRuntime) -> Result<(), Fail> {
+fn treaties_are_written(rt: HostRuntime) {
     for (text, treaties) in [
         // slacks that two sites can't share evenly
         (
@@ -138,9 +137,8 @@ fn treaties_are_written(rt: HostRuntime) -> Result<(), Fail> {
         ),
     ] {
         let given = plain(&["treaty"], text);
-        check(&rt, rt.alloc(), given, Status::Done, treaties, "")?;
+        check(&rt, rt.alloc(), given, Status::Done, treaties, "");
     }
-    Ok(())
 }
 
 /// A text, and its certificate.
@@ -165,36 +163,34 @@ const CERTIFIED: [Certified; 3] = [
 ];
 
 #[test]
-fn certificates_are_written_and_are_valid(rt: HostRuntime) -> Result<(), Fail> {
+fn certificates_are_written_and_are_valid(rt: HostRuntime) {
     let alloc = rt.alloc();
     for (text, certificate) in CERTIFIED {
-        let line = format!(in alloc; "{certificate}\n")?;
+        let line = format!(in alloc; "{certificate}\n").expect(&rt, "memory");
         let given = plain(&["certify"], text);
-        check(&rt, alloc, given, Status::Done, line.as_str(), "")?;
+        check(&rt, alloc, given, Status::Done, line.as_str(), "");
         let given = plain(&["verify"], line.as_str());
-        check(&rt, alloc, given, Status::Done, "valid\n", "")?;
+        check(&rt, alloc, given, Status::Done, "valid\n", "");
         // its newline is no part of it
         let given = plain(&["verify"], certificate);
-        check(&rt, alloc, given, Status::Done, "valid\n", "")?;
+        check(&rt, alloc, given, Status::Done, "valid\n", "");
     }
-    Ok(())
 }
 
 /// A certificate of two sites, whose second call is this command at site 1.
-fn certificate_of(alloc: Global, command: &str) -> Result<String, Fail> {
-    let mut text = String::from_str(
-        alloc,
-        r#"{"base":[9],"bounds":[[3,4]],"calls":[{"command":[["skip"]],"site":0},{"command":["#,
-    )?;
-    text.push_str(command)?;
-    text.push_str(
-        r#"],"site":1}],"clauses":[{"slack":7,"terms":[[0,1,1]]}],"freezes":[],"sites":2,"version":1}"#,
-    )?;
-    Ok(text)
+fn certificate_of(rt: &impl Abort, alloc: Global, command: &str) -> String {
+    let head =
+        r#"{"base":[9],"bounds":[[3,4]],"calls":[{"command":[["skip"]],"site":0},{"command":["#;
+    let end =
+        r#"],"site":1}],"clauses":[{"slack":7,"terms":[[0,1,1]]}],"freezes":[],"sites":2,"version":1}"#;
+    let mut text = String::from_str(alloc, head).expect(rt, "memory");
+    text.push_str(command).expect(rt, "memory");
+    text.push_str(end).expect(rt, "memory");
+    text
 }
 
 #[test]
-fn calls_of_certificates_are_judged(rt: HostRuntime) -> Result<(), Fail> {
+fn calls_of_certificates_are_judged(rt: HostRuntime) {
     let alloc = rt.alloc();
     for (command, verdict) in [
         // a delta of its own site that is at most 7
@@ -216,15 +212,14 @@ fn calls_of_certificates_are_judged(rt: HostRuntime) -> Result<(), Fail> {
         // an object that isn't there
         (r#"["print"],["base",1]"#, "invalid shape\n"),
     ] {
-        let certificate = certificate_of(alloc, command)?;
+        let certificate = certificate_of(&rt, alloc, command);
         let given = plain(&["verify"], certificate.as_str());
-        check(&rt, alloc, given, Status::Done, verdict, "")?;
+        check(&rt, alloc, given, Status::Done, verdict, "");
     }
-    Ok(())
 }
 
 #[test]
-fn other_bytes_are_judged(rt: HostRuntime) -> Result<(), Fail> {
+fn other_bytes_are_judged(rt: HostRuntime) {
     for (bytes, verdict) in [
         ("", "invalid json\n"),
         ("{}\n\n", "invalid shape\n"),
@@ -234,13 +229,12 @@ fn other_bytes_are_judged(rt: HostRuntime) -> Result<(), Fail> {
         ),
     ] {
         let given = plain(&["verify"], bytes);
-        check(&rt, rt.alloc(), given, Status::Done, verdict, "")?;
+        check(&rt, rt.alloc(), given, Status::Done, verdict, "");
     }
-    Ok(())
 }
 
 #[test]
-fn forecasts_are_written(rt: HostRuntime) -> Result<(), Fail> {
+fn forecasts_are_written(rt: HostRuntime) {
     for (text, forecast) in [
         // every call is served by bounds that differ from the even ones
         (
@@ -259,15 +253,14 @@ fn forecasts_are_written(rt: HostRuntime) -> Result<(), Fail> {
         ),
     ] {
         let given = plain(&["forecast"], text);
-        check(&rt, rt.alloc(), given, Status::Done, forecast, "")?;
+        check(&rt, rt.alloc(), given, Status::Done, forecast, "");
     }
-    Ok(())
 }
 
 #[test]
-fn rounds_by_packets_are_reported(rt: HostRuntime) -> Result<(), Fail> {
+fn rounds_by_packets_are_reported(rt: HostRuntime) {
     let given = plain(&["wire", "1"], STOCK);
     let report =
         "round 0\nsite 0\na 1 buy(1): 1\na 2 buy(1): 1\nsite 1\nb 1 buy(1): 1\nclose 0 clause 0 sum 3 bound 2\na 3 buy(1): 1\nround 1\nsite 0\nsite 1\ndatabase\nstock = 1\nrounds 2 calls 4\n";
-    check(&rt, rt.alloc(), given, Status::Done, report, "")
+    check(&rt, rt.alloc(), given, Status::Done, report, "");
 }

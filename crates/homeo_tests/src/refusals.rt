@@ -7,10 +7,9 @@ use crate::texts::{
 };
 use homeo::Status;
 use homeo_cluster::OpenGate;
-use std::test::Fail;
 
 #[test]
-fn other_words_are_no_command(rt: HostRuntime) -> Result<(), Fail> {
+fn other_words_are_no_command(rt: HostRuntime) {
     let usage =
         "usage: homeo steps or run or tables or treaty or serve or forecast or certify or verify or wire NUMBER or load NUMBER CALLS\n";
     let lists: [&'static [&'static str]; 15] = [
@@ -32,13 +31,12 @@ fn other_words_are_no_command(rt: HostRuntime) -> Result<(), Fail> {
     ];
     for words in lists {
         let given = plain(words, STOCK);
-        check(&rt, rt.alloc(), given, Status::Usage, "", usage)?;
+        check(&rt, rt.alloc(), given, Status::Usage, "", usage);
     }
-    Ok(())
 }
 
 #[test]
-fn a_faulty_text_is_refused(rt: HostRuntime) -> Result<(), Fail> {
+fn a_faulty_text_is_refused(rt: HostRuntime) {
     for (text, complaint) in [
         ("", "refused E4 at 0\n"),
         (NOTHING_BEHIND_THE_HEAD, "refused E4 at 19\n"),
@@ -114,17 +112,16 @@ fn a_faulty_text_is_refused(rt: HostRuntime) -> Result<(), Fail> {
         ),
     ] {
         let given = plain(&["steps"], text);
-        check(&rt, rt.alloc(), given, Status::Refused, "", complaint)?;
+        check(&rt, rt.alloc(), given, Status::Refused, "", complaint);
     }
-    Ok(())
 }
 
 #[test]
-fn each_beginning_of_a_text_is_refused(rt: HostRuntime) -> Result<(), Fail> {
+fn each_beginning_of_a_text_is_refused(rt: HostRuntime) {
     let alloc = rt.alloc();
     for length in 0..244 {
-        let text = STOCK.get(0..length).ok_or("the text is as long")?;
-        let ended = run_under(&rt, alloc, plain(&["steps"], text), &OpenGate)?;
+        let text = STOCK.get(0..length).expect(&rt, "a text as long");
+        let ended = run_under(&rt, alloc, plain(&["steps"], text), &OpenGate);
         assert_eq!(rt; ended.status, Status::Refused, "at {length}");
         same_items(&rt, ended.output.as_slice(), b"".as_slice());
         // the assignment's mark is cut in two
@@ -138,25 +135,25 @@ fn each_beginning_of_a_text_is_refused(rt: HostRuntime) -> Result<(), Fail> {
             "at {length}"
         );
     }
-    let whole = STOCK.get(0..244).ok_or("the text is as long")?;
+    let whole = STOCK.get(0..244).expect(&rt, "a text as long");
     let given = plain(&["steps"], whole);
-    check(&rt, alloc, given, Status::Done, STOCK_REPORT, "")
+    check(&rt, alloc, given, Status::Done, STOCK_REPORT, "");
 }
 
 #[test]
-fn a_text_past_a_limit_is_refused(rt: HostRuntime) -> Result<(), Fail> {
+fn a_text_past_a_limit_is_refused(rt: HostRuntime) {
     let alloc = rt.alloc();
-    let deep = in_parentheses(alloc, 30)?;
+    let deep = in_parentheses(&rt, alloc, 30);
     let nothing_ran = "round 0\nsite 0\ndatabase\nrounds 1 calls 0\n";
     let given = plain(&["steps"], deep.as_str());
-    check(&rt, alloc, given, Status::Done, nothing_ran, "")?;
+    check(&rt, alloc, given, Status::Done, nothing_ran, "");
     let mut spaces = String::new(alloc);
-    push_times(&mut spaces, " ", 1_048_577)?;
+    push_times(&rt, &mut spaces, " ", 1_048_577);
     let mut more_spaces = String::new(alloc);
-    push_times(&mut more_spaces, spaces.as_str(), 16)?;
-    let deeper = in_parentheses(alloc, 31)?;
-    let calls = called(alloc, "skip", 0, 20_000)?;
-    let prints = called(alloc, "print(1)", 50, 19_999)?;
+    push_times(&rt, &mut more_spaces, spaces.as_str(), 16);
+    let deeper = in_parentheses(&rt, alloc, 31);
+    let calls = called(&rt, alloc, "skip", 0, 20_000);
+    let prints = called(&rt, alloc, "print(1)", 50, 19_999);
     for (command, text, complaint) in [
         ("steps", deeper.as_str(), "refused E4 at 73\n"),
         ("steps", calls.as_str(), "refused E13 at 80060\n"),
@@ -177,10 +174,10 @@ fn a_text_past_a_limit_is_refused(rt: HostRuntime) -> Result<(), Fail> {
             write_piece: 65_536,
             ..plain(&words, text)
         };
-        check(&rt, alloc, given, Status::Refused, "", complaint)?;
+        check(&rt, alloc, given, Status::Refused, "", complaint);
     }
     // under `wire` alone a text has at most 200 calls
-    let many = called(alloc, "skip", 0, 200)?;
+    let many = called(&rt, alloc, "skip", 0, 200);
     let given = plain(&["wire", "1"], many.as_str());
     check(
         &rt,
@@ -189,5 +186,5 @@ fn a_text_past_a_limit_is_refused(rt: HostRuntime) -> Result<(), Fail> {
         Status::Refused,
         "",
         "refused E18 at 860\n",
-    )
+    );
 }

@@ -3,12 +3,11 @@
 use crate::same::{same, same_items};
 use homeo::{Status, run};
 use homeo_cluster::{Gate, OpenGate};
-use homeo_io::{Memory, MemorySink, MemorySource};
+use homeo_io::{MemorySink, MemorySource};
 use homeo_syntax::{List, Text};
 use std::alloc::Global;
 use std::process::Abort;
 use std::sync::Wait;
-use std::test::Fail;
 use std::thread::Threads;
 
 /// What a run is given: words, a text, how many bytes a read and a write move at most, how many bytes an output may have, and of each
@@ -47,42 +46,47 @@ pub(crate) const fn plain<'a>(words: &'a [&'a str], text: &'a str) -> Given<'a> 
     }
 }
 
-fn sink(alloc: Global, given: Given<'_>, fails: u64) -> Result<MemorySink, Fail> {
-    match MemorySink::new(
-        alloc,
-        given.room,
-        given.write_piece.max(1),
-        vec![in alloc; fails]?,
-    ) {
-        Ok(sink) => Ok(sink),
-        Err(Memory) => Err(Fail::from(std::alloc::AllocError)),
+fn sink(rt: &impl Abort, alloc: Global, given: Given<'_>, fails: u64) -> MemorySink {
+    let fails = vec![in alloc; fails].expect(rt, "memory");
+    MemorySink::new(alloc, given.room, given.write_piece.max(1), fails).expect(rt, "memory")
+}
+
+fn source(rt: &impl Abort, alloc: Global, given: Given<'_>) -> MemorySource {
+    let text = given.text.as_bytes().to_vec(alloc).expect(rt, "memory");
+    let fails = vec![in alloc; given.read_fails].expect(rt, "memory");
+    MemorySource::new(text, given.read_piece.max(1), fails)
+}
+
+fn words_of(rt: &impl Abort, alloc: Global, given: Given<'_>) -> List<Text> {
+    let mut words = List::new(alloc);
+    for word in given.words {
+        let word = Text::of(alloc, word).expect(rt, "memory");
+        words.push(word).expect(rt, "memory");
     }
+    words
+}
+
+fn written(rt: &impl Abort, alloc: Global, sink: &MemorySink) -> Vec<u8> {
+    sink.bytes().to_vec(alloc).expect(rt, "memory")
 }
 
 /// Runs to the end, where a gate is told of each call.
-pub(crate) fn run_under<R: Threads + Wait + Sync, G: Gate>(
+pub(crate) fn run_under<R: Threads + Wait + Abort + Sync, G: Gate>(
     rt: &R,
     alloc: Global,
     given: Given<'_>,
     gate: &G,
-) -> Result<Ending, Fail> {
-    let mut words = List::new(alloc);
-    for word in given.words {
-        words.push(Text::of(alloc, word)?)?;
-    }
-    let mut source = MemorySource::new(
-        given.text.as_bytes().to_vec(alloc)?,
-        given.read_piece.max(1),
-        vec![in alloc; given.read_fails]?,
-    );
-    let mut taken = sink(alloc, given, given.write_fails)?;
-    let mut said = sink(alloc, given, given.complaint_fails)?;
+) -> Ending {
+    let words = words_of(rt, alloc, given);
+    let mut source = source(rt, alloc, given);
+    let mut taken = sink(rt, alloc, given, given.write_fails);
+    let mut said = sink(rt, alloc, given, given.complaint_fails);
     let status = run(rt, alloc, &words, &mut source, &mut taken, &mut said, gate);
-    Ok(Ending {
+    Ending {
         status,
-        output: taken.bytes().to_vec(alloc)?,
-        complaint: said.bytes().to_vec(alloc)?,
-    })
+        output: written(rt, alloc, &taken),
+        complaint: written(rt, alloc, &said),
+    }
 }
 
 /// Runs, and compares status, output and complaint.
@@ -93,22 +97,21 @@ pub(crate) fn check<R: Threads + Wait + Abort + Sync>(
     status: Status,
     output: &str,
     complaint: &str,
-) -> Result<(), Fail> {
-    let ended = run_under(rt, alloc, given, &OpenGate)?;
+) {
+    let ended = run_under(rt, alloc, given, &OpenGate);
     same(rt, &ended.status, &status);
     same_items(rt, ended.output.as_slice(), output.as_bytes());
     same_items(rt, ended.complaint.as_slice(), complaint.as_bytes());
-    Ok(())
 }
 
 /// Runs on a text whose output may be long, in one piece and without a fault.
-pub(crate) fn run_words<R: Threads + Wait + Sync, G: Gate>(
+pub(crate) fn run_words<R: Threads + Wait + Abort + Sync, G: Gate>(
     rt: &R,
     alloc: Global,
     words: &[&str],
     text: &str,
     gate: &G,
-) -> Result<Ending, Fail> {
+) -> Ending {
     let given = Given {
         read_piece: 65_536,
         write_piece: 65_536,
@@ -125,9 +128,9 @@ pub(crate) fn output<R: Threads + Wait + Abort + Sync, G: Gate>(
     words: &[&str],
     text: &str,
     gate: &G,
-) -> Result<Vec<u8>, Fail> {
-    let ending = run_words(rt, alloc, words, text, gate)?;
+) -> Vec<u8> {
+    let ending = run_words(rt, alloc, words, text, gate);
     same(rt, &ending.status, &Status::Done);
     same_items(rt, ending.complaint.as_slice(), b"".as_slice());
-    Ok(ending.output)
+    ending.output
 }

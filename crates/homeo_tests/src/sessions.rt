@@ -10,7 +10,6 @@ use homeo_session::Session;
 use homeo_syntax::Refusal;
 use std::alloc::Global;
 use std::process::Abort;
-use std::test::Fail;
 
 const HEAD: &str = "workload 1
 sites 2
@@ -58,54 +57,59 @@ const CASES: [Case; 2] = [
     ),
 ];
 
-fn concat(alloc: Global, parts: &[&str]) -> Result<String, Fail> {
+fn concat(rt: &impl Abort, alloc: Global, parts: &[&str]) -> String {
     let mut text = String::new(alloc);
     for part in parts {
-        text.push_str(part)?;
+        text.push_str(part).expect(rt, "memory");
     }
-    Ok(text)
+    text
 }
 
 /// What is answered to a stream that comes in pieces of so many bytes, and stops no session.
-fn answers(rt: &impl Abort, alloc: Global, stream: &str, piece: usize) -> Result<Vec<u8>, Fail>
+fn answers(rt: &impl Abort, alloc: Global, stream: &str, piece: usize) -> Vec<u8>
     requires { 0 < piece }
 {
-    let mut session = Session::begin(alloc)?;
+    let mut session = Session::begin(alloc).expect(rt, "memory");
     let mut answers = Vec::new(alloc);
     for bytes in stream.as_bytes().chunks(piece) {
         assert!(rt; !session.spent());
-        let fed = session.feed(alloc, bytes)?;
-        answers.extend_from_slice(fed.answers.as_slice())?;
+        let fed = session.feed(alloc, bytes).expect(rt, "memory");
+        answers
+            .extend_from_slice(fed.answers.as_slice())
+            .expect(rt, "memory");
     }
     assert!(rt; !session.spent());
-    let fed = session.close(alloc)?;
+    let fed = session.close(alloc).expect(rt, "memory");
     assert!(rt; fed.stop.is_none());
-    answers.extend_from_slice(fed.answers.as_slice())?;
-    Ok(answers)
+    answers
+        .extend_from_slice(fed.answers.as_slice())
+        .expect(rt, "memory");
+    answers
 }
 
 #[test]
-fn batches_are_answered_however_the_stream_is_cut(rt: HostRuntime) -> Result<(), Fail> {
+fn batches_are_answered_however_the_stream_is_cut(rt: HostRuntime) {
     let alloc = rt.alloc();
     for (frames, lines) in CASES {
-        let stream = concat(alloc, frames)?;
-        let want = concat(alloc, lines)?;
+        let stream = concat(&rt, alloc, frames);
+        let want = concat(&rt, alloc, lines);
         for piece in [65_536, 1] {
-            let given = answers(&rt, alloc, stream.as_str(), piece)?;
+            let given = answers(&rt, alloc, stream.as_str(), piece);
             assert_eq!(&rt; given.as_slice(), want.as_bytes(), "in pieces of {piece}");
         }
     }
-    Ok(())
 }
 
 /// The most bytes that a frame may have, and a batch's text.
 const FRAME: usize = 1_048_576;
 
 /// A text behind so many spaces.
-fn behind_spaces(alloc: Global, spaces: usize, text: &str) -> Result<Vec<u8>, Fail> {
-    let mut bytes = vec![in alloc; b' '; spaces]?;
-    bytes.extend_from_slice(text.as_bytes())?;
-    Ok(bytes)
+fn behind_spaces(rt: &impl Abort, alloc: Global, spaces: usize, text: &str) -> Vec<u8> {
+    let mut bytes = vec![in alloc; b' '; spaces].expect(rt, "memory");
+    bytes
+        .extend_from_slice(text.as_bytes())
+        .expect(rt, "memory");
+    bytes
 }
 
 /// Feeds a piece, and compares the answers and whether it stops the session.
@@ -116,41 +120,41 @@ fn check_piece(
     piece: &[u8],
     want: &str,
     stop: Option<Refusal>,
-) -> Result<(), Fail> {
+) {
     assert!(rt; !session.spent());
-    let fed = session.feed(alloc, piece)?;
+    let fed = session.feed(alloc, piece).expect(rt, "memory");
     same_items(rt, fed.answers.as_slice(), want.as_bytes());
     same(rt, &fed.stop, &stop);
     same(rt, &session.spent(), &stop.is_some());
-    Ok(())
 }
 
 /// The head fills a frame, so a batch has room for its last line alone.
 #[test]
-fn frames_and_batches_end_at_their_limits(rt: HostRuntime) -> Result<(), Fail> {
+fn frames_and_batches_end_at_their_limits(rt: HostRuntime) {
     let alloc = rt.alloc();
-    let mut session = Session::begin(alloc)?;
-    let head = behind_spaces(alloc, FRAME - 23, "workload 1\nsites 1\nend\n")?;
-    check_piece(&rt, alloc, &mut session, head.as_slice(), "", None)?;
+    let mut session = Session::begin(alloc).expect(&rt, "memory");
+    let head = behind_spaces(&rt, alloc, FRAME - 23, "workload 1\nsites 1\nend\n");
+    check_piece(&rt, alloc, &mut session, head.as_slice(), "", None);
     let report = "round 0\nsite 0\ndatabase\nrounds 1 calls 0\n";
-    check_piece(&rt, alloc, &mut session, b"end\n", report, None)?;
+    check_piece(&rt, alloc, &mut session, b"end\n", report, None);
     let refused = "refused E2 at 1048576\n";
-    check_piece(&rt, alloc, &mut session, b" end\n", refused, None)?;
-    let spaces = behind_spaces(alloc, FRAME, "")?;
-    check_piece(&rt, alloc, &mut session, spaces.as_slice(), "", None)?;
+    check_piece(&rt, alloc, &mut session, b" end\n", refused, None);
+    let spaces = behind_spaces(&rt, alloc, FRAME, "");
+    check_piece(&rt, alloc, &mut session, spaces.as_slice(), "", None);
     let stop = Refusal {
         code: 2,
         offset: 1_048_576,
     };
-    check_piece(&rt, alloc, &mut session, b"\n", "", Some(stop))
+    check_piece(&rt, alloc, &mut session, b"\n", "", Some(stop));
+    drop(session);
 }
 
 /// The first four reads give the first batch, the fifth gives the second one, and the sixth finds the end.
 #[test]
-fn each_read_and_each_write_of_a_session_fails_in_turn(rt: HostRuntime) -> Result<(), Fail> {
+fn each_read_and_each_write_of_a_session_fails_in_turn(rt: HostRuntime) {
     let alloc = rt.alloc();
-    let stream = concat(alloc, &[HEAD, FIRST, SECOND])?;
-    let want = concat(alloc, &[FIRST_REPORT, SECOND_REPORT])?;
+    let stream = concat(&rt, alloc, &[HEAD, FIRST, SECOND]);
+    let want = concat(&rt, alloc, &[FIRST_REPORT, SECOND_REPORT]);
     let whole = Given {
         read_piece: 53,
         write_piece: 43,
@@ -158,7 +162,7 @@ fn each_read_and_each_write_of_a_session_fails_in_turn(rt: HostRuntime) -> Resul
         write_fails: 7,
         ..plain(&["serve"], stream.as_str())
     };
-    check(&rt, alloc, whole, Status::Done, want.as_str(), "")?;
+    check(&rt, alloc, whole, Status::Done, want.as_str(), "");
     for read_fails in 1..7 {
         let taken = if read_fails < 5 { "" } else { FIRST_REPORT };
         let given = Given {
@@ -166,26 +170,25 @@ fn each_read_and_each_write_of_a_session_fails_in_turn(rt: HostRuntime) -> Resul
             ..whole
         };
         let (fault, said) = (Status::ReadFault, "read fault\n");
-        check(&rt, alloc, given, fault, taken, said)?;
+        check(&rt, alloc, given, fault, taken, said);
     }
     for writes in 0..6 {
-        let taken = want.get(0..43 * writes).ok_or("the output is as long")?;
+        let taken = want.get(0..43 * writes).expect(&rt, "an output as long");
         let given = Given {
             write_fails: writes as u64 + 1,
             ..whole
         };
         let (fault, said) = (Status::WriteFault, "write fault\n");
-        check(&rt, alloc, given, fault, taken, said)?;
+        check(&rt, alloc, given, fault, taken, said);
     }
-    Ok(())
 }
 
 #[test]
-fn a_stop_is_told_behind_the_answers_before_it(rt: HostRuntime) -> Result<(), Fail> {
+fn a_stop_is_told_behind_the_answers_before_it(rt: HostRuntime) {
     let alloc = rt.alloc();
-    let mut long = concat(alloc, &[HEAD, FIRST])?;
-    push_times(&mut long, " ", FRAME as u64)?;
-    long.push_str("\n")?;
+    let mut long = concat(&rt, alloc, &[HEAD, FIRST]);
+    push_times(&rt, &mut long, " ", FRAME as u64);
+    long.push_str("\n").expect(&rt, "memory");
     for (stream, output, complaint) in [
         ("", "", "refused E4 at 0\n"),
         ("workload 1\nend\n", "", "refused E4 at 11\n"),
@@ -195,7 +198,6 @@ fn a_stop_is_told_behind_the_answers_before_it(rt: HostRuntime) -> Result<(), Fa
             read_piece: 65_536,
             ..plain(&["serve"], stream)
         };
-        check(&rt, alloc, given, Status::Refused, output, complaint)?;
+        check(&rt, alloc, given, Status::Refused, output, complaint);
     }
-    Ok(())
 }

@@ -6,7 +6,6 @@ use homeo_meaning::{Accepted, Purpose};
 use std::alloc::Global;
 use std::process::Abort;
 use std::sync::Arc;
-use std::test::Fail;
 
 /// A stock of five, of which each of two sites may sell two by itself.
 const STOCK: &str = "workload 1
@@ -39,33 +38,28 @@ pub(crate) const SHORT_ORDER: &str =
     "client a at 0 { buy(1); buy(1); buy(1) }\nclient b at 1 { buy(1) }\nschedule a a b\n";
 
 /// The text with these clients.
-pub(crate) fn shop(alloc: Global, clients: &str) -> Result<String, Fail> {
-    let mut text = String::from_str(alloc, STOCK)?;
-    text.push_str(clients)?;
-    text.push_str("end\n")?;
-    Ok(text)
+pub(crate) fn shop(rt: &impl Abort, alloc: Global, clients: &str) -> String {
+    let mut text = String::from_str(alloc, STOCK).expect(rt, "memory");
+    text.push_str(clients).expect(rt, "memory");
+    text.push_str("end\n").expect(rt, "memory");
+    text
 }
 
 /// Reads a text that is accepted.
-pub(crate) fn accepted(rt: &impl Abort, alloc: Global, text: &str) -> Result<Accepted, Fail> {
+pub(crate) fn accepted(rt: &impl Abort, alloc: Global, text: &str) -> Accepted {
     assert!(rt; text.len() <= 1_048_576);
-    let w = homeo_accept::accepted(alloc, text.as_bytes(), Purpose::Run);
-    Ok(w.ok().ok_or("an accepted text")?)
+    homeo_accept::accepted(alloc, text.as_bytes(), Purpose::Run).expect(rt, "an accepted text")
 }
 
 /// Reads the text with these clients.
-pub(crate) fn accepted_shop(
-    rt: &impl Abort,
-    alloc: Global,
-    clients: &str,
-) -> Result<Accepted, Fail> {
-    let text = shop(alloc, clients)?;
+pub(crate) fn accepted_shop(rt: &impl Abort, alloc: Global, clients: &str) -> Accepted {
+    let text = shop(rt, alloc, clients);
     accepted(rt, alloc, text.as_str())
 }
 
 /// Reads a text that is accepted, and compiles it.
-pub(crate) fn compiled(rt: &impl Abort, alloc: Global, text: &str) -> Result<Arc<Compiled>, Fail> {
-    let w = accepted(rt, alloc, text)?;
-    let c = compile(alloc, w)?;
-    Ok(Arc::new(alloc, c)?)
+pub(crate) fn compiled(rt: &impl Abort, alloc: Global, text: &str) -> Arc<Compiled> {
+    let w = accepted(rt, alloc, text);
+    let c = compile(alloc, w).expect(rt, "memory");
+    Arc::new(alloc, c).expect(rt, "memory")
 }

@@ -1,6 +1,6 @@
 //! The calls of one client at its site.
 
-ghost use Rattle.std.specs.Prelude.{◌≡◌, IfOk, IfSome};
+ghost use Rattle.std.specs.Prelude.{◌≡◌, IfSome};
 ghost use Rattle.homeo_syntax.specs.SourceView.{plain_workload};
 ghost use Rattle.homeo_history.specs.Legal.{IsCallAt};
 ghost use Rattle.homeo_tests.specs.inner.Sites.{IsFirstSite};
@@ -14,10 +14,10 @@ use homeo_eval::initial;
 use homeo_meaning::{Accepted, CallId};
 use homeo_plan::Broken;
 use homeo_site::{Outcome, Site, SiteStart};
-use homeo_syntax::{List, Memory, Prints};
+use homeo_syntax::{List, Prints};
 use std::alloc::Global;
+use std::process::Abort;
 use std::sync::Arc;
-use std::test::Fail;
 
 /// The call of this number of the first client, if there is one and the client is at site 0.
 fn first_client_call(w: &Accepted, seq: u64) -> Option<CallId>
@@ -37,93 +37,105 @@ fn first_client_call(w: &Accepted, seq: u64) -> Option<CallId>
 }
 
 /// Site 0 in the round that begins at the starting values.
-fn first_site(alloc: Global, w: Accepted) -> Result<(Arc<Compiled, Global>, Site), Memory>
-    ensures { IfOk result (λ r. IsFirstSite r.0.value r.1) }
+fn first_site(rt: &impl Abort, alloc: Global, w: Accepted) -> (Arc<Compiled, Global>, Site)
+    ensures { IsFirstSite result.0.value result.1 }
 {
-    let base = initial(alloc, &w)?;
-    let compiled = Arc::new(alloc, compile(alloc, w)?)?;
-    let plan = plan_at(alloc, &compiled, &base)?;
-    let start = SiteStart::new(alloc, &compiled, &plan, 0, 0)?;
-    Ok((compiled, Site::begin(start)))
+    // its rules hold
+    let _workload = w.workload();
+    let base = initial(alloc, &w).expect(rt, "memory");
+    let made = compile(alloc, w).expect(rt, "memory");
+    let compiled = Arc::new(alloc, made).expect(rt, "memory");
+    let plan = plan_at(alloc, &compiled, &base).expect(rt, "memory");
+    let start = SiteStart::new(alloc, &compiled, &plan, 0, 0).expect(rt, "memory");
+    drop(plan);
+    (compiled, Site::begin(start))
 }
 
 /// Attempts a call, and commits its change where it keeps the treaty.
-fn make(alloc: Global, site: &mut Site, call: CallId) -> Result<Option<Broken>, Memory>
+fn make(rt: &impl Abort, alloc: Global, site: &mut Site, call: CallId) -> Option<Broken>
     requires { IsCallAt (plain_workload site.old.work) site.old.state.number call }
     ensures work { site.new.work ≡ site.old.work }
     ensures number { site.new.state.number ≡ site.old.state.number }
 {
-    match site.attempt(alloc, call)? {
+    let outcome = site.attempt(alloc, call).expect(rt, "memory");
+    match outcome {
         Outcome::Keeps(change) => {
             site.commit(change);
-            Ok(None)
+            None
         }
-        Outcome::Breaks(broken) => Ok(Some(broken)),
+        Outcome::Breaks(broken) => Some(broken),
     }
 }
 
 /// Makes the call of this number of the first client.
 fn make_first(
+    rt: &impl Abort,
     alloc: Global,
     compiled: &Compiled,
     site: &mut Site,
     seq: u64,
-) -> Result<Option<Broken>, Fail>
+) -> Option<Broken>
     requires { IsFirstSite compiled.now site.old }
     ensures { IsFirstSite compiled.now site.new }
 {
-    let call = first_client_call(compiled.workload(), seq).ok_or("no call")?;
-    Ok(make(alloc, site, call)?)
+    let call = first_client_call(compiled.workload(), seq).expect(rt, "a call");
+    make(rt, alloc, site, call)
+}
+
+/// Two calls were made, and each printed 1.
+fn check_entries(rt: &impl Abort, site: &Site) {
+    match site.segment().entries.as_slice() {
+        [first, second] => {
+            same_items(rt, first.prints.as_slice(), [1].as_slice());
+            same_items(rt, second.prints.as_slice(), [1].as_slice());
+        }
+        _ => panic!(rt; "two entries"),
+    }
 }
 
 /// Two of five are this site's to sell.
 #[test]
-fn a_site_sells_until_its_treaty_breaks(rt: HostRuntime) -> Result<(), Fail> {
+fn a_site_sells_until_its_treaty_breaks(rt: HostRuntime) {
     let alloc = rt.alloc();
-    let w = accepted_shop(&rt, alloc, THREE_AND_ONE)?;
-    let (compiled, mut site) = first_site(alloc, w)?;
-    same(&rt, &make_first(alloc, &compiled, &mut site, 1)?, &None);
-    same(&rt, &make_first(alloc, &compiled, &mut site, 2)?, &None);
+    let w = accepted_shop(&rt, alloc, THREE_AND_ONE);
+    let (compiled, mut site) = first_site(&rt, alloc, w);
+    same(&rt, &make_first(&rt, alloc, &compiled, &mut site, 1), &None);
+    same(&rt, &make_first(&rt, alloc, &compiled, &mut site, 2), &None);
     let broken = Broken {
         clause: 0,
         sum: 3,
         bound: 2,
     };
-    same(
-        &rt,
-        &make_first(alloc, &compiled, &mut site, 3)?,
-        &Some(broken),
-    );
-    match site.segment().entries.as_slice() {
-        [first, second] => {
-            same_items(&rt, first.prints.as_slice(), [1].as_slice());
-            same_items(&rt, second.prints.as_slice(), [1].as_slice());
-        }
-        _ => panic!(rt; "two entries"),
-    }
-    Ok(())
+    let found = make_first(&rt, alloc, &compiled, &mut site, 3);
+    drop(compiled);
+    same(&rt, &found, &Some(broken));
+    check_entries(&rt, &site);
+    drop(site);
 }
 
 /// The first client's first call, attempted in its room with a copy of its prints.
 fn attempt_first(
+    rt: &impl Abort,
     alloc: Global,
     compiled: &Compiled,
     site: &mut Site,
-) -> Result<(Outcome, List<Prints>), Fail>
+) -> (Outcome, List<Prints>)
     requires { IsFirstSite compiled.now site.old }
 {
-    let call = first_client_call(compiled.workload(), 1).ok_or("no call")?;
-    let (room, mut answers) = site.room(alloc, call, 1)?;
+    let call = first_client_call(compiled.workload(), 1).expect(rt, "a call");
+    let (room, mut answers) = site.room(alloc, call, 1).expect(rt, "memory");
     let outcome = site.attempt_in(call, room, &mut answers);
-    Ok((outcome, answers))
+    (outcome, answers)
 }
 
 #[test]
-fn prints_are_copied_into_the_answers(rt: HostRuntime) -> Result<(), Fail> {
+fn prints_are_copied_into_the_answers(rt: HostRuntime) {
     let alloc = rt.alloc();
-    let w = accepted_shop(&rt, alloc, THREE_AND_ONE)?;
-    let (compiled, mut site) = first_site(alloc, w)?;
-    let (outcome, answers) = attempt_first(alloc, &compiled, &mut site)?;
+    let w = accepted_shop(&rt, alloc, THREE_AND_ONE);
+    let (compiled, mut site) = first_site(&rt, alloc, w);
+    let (outcome, answers) = attempt_first(&rt, alloc, &compiled, &mut site);
+    drop(site);
+    drop(compiled);
     match outcome {
         Outcome::Keeps(change) => same_items(&rt, change.prints.as_slice(), [1].as_slice()),
         Outcome::Breaks(broken) => panic!(rt; "breaks {broken:?}"),
@@ -132,5 +144,5 @@ fn prints_are_copied_into_the_answers(rt: HostRuntime) -> Result<(), Fail> {
         [copy] => same_items(&rt, copy.as_slice(), [1].as_slice()),
         _ => panic!(rt; "one copy"),
     }
-    Ok(())
+    drop(answers);
 }

@@ -1,24 +1,22 @@
 //! Calls of two clients at two sites, made by a core.
 
-ghost use Rattle.std.specs.Prelude.{◌≡◌, ◌<◌, ◌≤◌, length, slice_index_or, IfOk, OnOk};
+ghost use Rattle.std.specs.Prelude.{◌≡◌, ◌<◌, ◌≤◌, length, slice_index_or};
 ghost use Rattle.homeo_syntax.specs.SourceView.{plain_workload};
 ghost use Rattle.homeo_history.specs.HistoryView.{plain_history};
 ghost use Rattle.homeo_history.specs.Legal.{call_count};
 ghost use Rattle.homeo_report.specs.Report.{CanReport};
 
 use crate::same::{same, same_items};
-use crate::shops::{THREE_AND_ONE, accepted_shop};
+use crate::shops::{THREE_AND_ONE, compiled, shop};
 use homeo_build::Compiled;
-use homeo_build::compile::compile;
 use homeo_core::Core;
 use homeo_history::{Answer, History, Path};
 use homeo_plan::Broken;
 use homeo_report::{report, summary};
-use homeo_syntax::{List, Memory};
+use homeo_syntax::List;
 use std::alloc::Global;
 use std::process::Abort;
 use std::sync::Arc;
-use std::test::Fail;
 
 /// The report of these calls.
 const REPORT: &str = "round 0
@@ -38,31 +36,31 @@ rounds 2 calls 4
 ";
 
 /// Makes a client's next call, and makes it again where memory was refused: the core is as it was then.
-fn step_again(alloc: Global, core: &mut Core, client: u32) -> Result<Answer, Memory>
+fn step_again(rt: &impl Abort, alloc: Global, core: &mut Core, client: u32) -> Answer
     requires exists { client < length (plain_workload core.old.work).clients }
     requires left { slice_index_or core.old.counts client 0 < call_count (plain_workload core.old.work) client }
     ensures { core.new.work ≡ core.old.work }
 {
     match core.step(alloc, client) {
-        Ok(answer) => Ok(answer),
-        Err(_) => core.step(alloc, client),
+        Ok(answer) => answer,
+        Err(_) => core.step(alloc, client).expect(rt, "memory"),
     }
 }
 
 /// Makes the next call of each of these clients, of the first two.
-fn step_all(alloc: Global, core: &mut Core, order: &[u32]) -> Result<List<Answer>, Fail>
+fn step_all(rt: &impl Abort, alloc: Global, core: &mut Core, order: &[u32]) -> List<Answer>
     requires { 2 ≤ length (plain_workload core.old.work).clients }
-    ensures { OnOk result (core.new.work ≡ core.old.work) }
+    ensures { core.new.work ≡ core.old.work }
 {
     let mut answers = List::new(alloc);
     for client in order {
         if *client >= 2 || core.left(*client) == 0 {
-            return Err(Fail::from("no call is left"));
+            panic!(rt; "a call is left");
         }
-        let answer = step_again(alloc, core, *client)?;
-        answers.push(answer)?;
+        let answer = step_again(rt, alloc, core, *client);
+        answers.push(answer).expect(rt, "memory");
     }
-    Ok(answers)
+    answers
 }
 
 #[tactic(auto, unfolding(homeo_syntax::specs::Key::definitions))]
@@ -74,14 +72,15 @@ fn client_count(c: &Compiled) -> u64
 
 /// A core of a workload with two clients.
 #[tactic(auto, unfolding(homeo_core::specs::Key::definitions))]
-fn core_of(alloc: Global, c: &Arc<Compiled>) -> Result<Core, Fail>
-    ensures work { IfOk result (λ core. core.work ≡ c.now.value) }
-    ensures clients { IfOk result (λ core. 2 ≤ length (plain_workload core.work).clients) }
+fn core_of(rt: &impl Abort, alloc: Global, c: &Arc<Compiled>) -> Core
+    ensures work { result.work ≡ c.now.value }
+    ensures clients { 2 ≤ length (plain_workload result.work).clients }
 {
     if client_count(c) < 2 {
-        return Err(Fail::from("two clients"));
+        panic!(rt; "two clients");
     }
-    Ok(Core::begin(alloc, Arc::try_clone(c)?)?)
+    let shared = Arc::try_clone(c).expect(rt, "memory");
+    Core::begin(alloc, shared).expect(rt, "memory")
 }
 
 /// What calls were answered, and their history.
@@ -92,22 +91,22 @@ struct Made {
 }
 
 /// Makes the next call of each of these clients, from the starting values on.
-fn make_all(alloc: Global, c: &Arc<Compiled>, order: &[u32]) -> Result<Made, Fail>
-    ensures reportable { IfOk result (λ made. CanReport (plain_workload c.now.value) (plain_history made.history)) }
+fn make_all(rt: &impl Abort, alloc: Global, c: &Arc<Compiled>, order: &[u32]) -> Made
+    ensures reportable { CanReport (plain_workload c.now.value) (plain_history result.history) }
 {
-    let mut core = core_of(alloc, c)?;
-    let answers = step_all(alloc, &mut core, order)?;
-    let history = core.finish(alloc)?;
-    Ok(Made { answers, history })
+    let mut core = core_of(rt, alloc, c);
+    let answers = step_all(rt, alloc, &mut core, order);
+    let history = core.finish(alloc).expect(rt, "memory");
+    Made { answers, history }
 }
 
 /// The report and the summary of a history.
-fn told(alloc: Global, c: &Compiled, history: &History) -> Result<(Vec<u8>, Vec<u8>), Memory>
+fn told(rt: &impl Abort, alloc: Global, c: &Compiled, history: &History) -> (Vec<u8>, Vec<u8>)
     requires { CanReport (plain_workload c.now) (plain_history history.now) }
 {
-    let reported = report(alloc, history, c.workload())?;
-    let summed = summary(alloc, history, c.workload())?;
-    Ok((reported, summed))
+    let reported = report(alloc, history, c.workload()).expect(rt, "memory");
+    let summed = summary(alloc, history, c.workload()).expect(rt, "memory");
+    (reported, summed)
 }
 
 /// The first client's third call closes the first round.
@@ -148,25 +147,25 @@ fn check_rounds(rt: &impl Abort, history: &History) {
     }
 }
 
-fn compiled_shop(rt: &impl Abort, alloc: Global, clients: &str) -> Result<Arc<Compiled>, Fail> {
-    let w = accepted_shop(rt, alloc, clients)?;
-    let c = compile(alloc, w)?;
-    Ok(Arc::new(alloc, c)?)
+fn compiled_shop(rt: &impl Abort, alloc: Global, clients: &str) -> Arc<Compiled> {
+    let text = shop(rt, alloc, clients);
+    compiled(rt, alloc, text.as_str())
 }
 
 #[test]
-fn a_call_that_breaks_its_treaty_closes_the_round(rt: HostRuntime) -> Result<(), Fail> {
+fn a_call_that_breaks_its_treaty_closes_the_round(rt: HostRuntime) {
     let alloc = rt.alloc();
-    let c = compiled_shop(&rt, alloc, THREE_AND_ONE)?;
-    let made = make_all(alloc, &c, &[0, 0, 1, 0])?;
+    let c = compiled_shop(&rt, alloc, THREE_AND_ONE);
+    let made = make_all(&rt, alloc, &c, &[0, 0, 1, 0]);
     check_answers(&rt, made.answers.as_slice());
     check_rounds(&rt, &made.history);
-    let (reported, summed) = told(alloc, &c, &made.history)?;
+    let (reported, summed) = told(&rt, alloc, &c, &made.history);
+    drop(made);
+    drop(c);
     same_items(&rt, reported.as_slice(), REPORT.as_bytes());
     same_items(
         &rt,
         summed.as_slice(),
         b"calls 4\nprints 4\nstock = 1\n".as_slice(),
     );
-    Ok(())
 }

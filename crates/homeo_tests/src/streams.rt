@@ -4,7 +4,6 @@ use crate::same::{same, same_items};
 use homeo_io::{ReadError, StdSink, StdSource, read_all, write_all};
 use std::alloc::Global;
 use std::io::{self, Read, Write};
-use std::test::Fail;
 
 // Gives one byte a call, and fails at the third.
 #[derive(Drop)]
@@ -27,7 +26,7 @@ impl Read for ThirdFails {
 }
 
 #[test]
-fn a_reader_is_read_to_its_end_or_its_first_error(rt: HostRuntime) -> Result<(), Fail> {
+fn a_reader_is_read_to_its_end_or_its_first_error(rt: HostRuntime) {
     let alloc = rt.alloc();
     let mut source = StdSource::new(b"12\n".as_slice());
     match read_all(alloc, &mut source, 3) {
@@ -45,7 +44,6 @@ fn a_reader_is_read_to_its_end_or_its_first_error(rt: HostRuntime) -> Result<(),
             Err(ReadError::TooLong { taken: 3 })
         )
     );
-    Ok(())
 }
 
 // Takes two bytes in all, and then none. It may fail to flush.
@@ -85,7 +83,7 @@ fn make_narrow(alloc: Global, flush_fails: bool) -> Narrow {
 }
 
 #[test]
-fn a_writer_is_flushed_and_its_errors_are_told(rt: HostRuntime) -> Result<(), Fail> {
+fn a_writer_is_flushed_and_its_errors_are_told(rt: HostRuntime) {
     let alloc = rt.alloc();
     let mut writer = make_narrow(alloc, false);
     let mut sink = StdSink::new(&mut writer);
@@ -97,5 +95,4 @@ fn a_writer_is_flushed_and_its_errors_are_told(rt: HostRuntime) -> Result<(), Fa
     let mut writer = make_narrow(alloc, true);
     assert!(rt; write_all(&mut StdSink::new(&mut writer), b"ab").is_err());
     same_items(&rt, writer.taken.as_slice(), b"a".as_slice());
-    Ok(())
 }

@@ -1,7 +1,7 @@
 //! Texts that several tests take, and how others are made.
 
 use std::alloc::Global;
-use std::test::Fail;
+use std::process::Abort;
 
 pub(crate) const STOCK: &str =
     "workload 1\nsites 2\nobject stock in 0..10 = 5\ntransaction buy(n in 1..3) { s := read(stock); if n <= s then { write(stock = s - n); print(1) } else print(0) }\nclient a at 0 { buy(1); buy(1); buy(1) }\nclient b at 1 { buy(1) }\nschedule a a b a\nend\n";
@@ -35,44 +35,45 @@ end
 ";
 
 /// Appends a piece so many times.
-pub(crate) fn push_times(text: &mut String, piece: &str, times: u64) -> Result<(), Fail> {
+pub(crate) fn push_times(rt: &impl Abort, text: &mut String, piece: &str, times: u64) {
     for _ in 0..times {
-        text.push_str(piece)?;
+        text.push_str(piece).expect(rt, "memory");
     }
-    Ok(())
 }
 
 /// Appends a piece so many times and once, with semicolons between.
-pub(crate) fn push_list(text: &mut String, piece: &str, others: u64) -> Result<(), Fail> {
-    text.push_str(piece)?;
+pub(crate) fn push_list(rt: &impl Abort, text: &mut String, piece: &str, others: u64) {
+    text.push_str(piece).expect(rt, "memory");
     for _ in 0..others {
-        text.push_str(";")?;
-        text.push_str(piece)?;
+        text.push_str(";").expect(rt, "memory");
+        text.push_str(piece).expect(rt, "memory");
     }
-    Ok(())
 }
 
 /// A transaction that prints a number in so many parentheses.
-pub(crate) fn in_parentheses(alloc: Global, depth: u64) -> Result<String, Fail> {
-    let mut text = String::from_str(alloc, "workload 1\nsites 1\ntransaction t() { print(")?;
-    push_times(&mut text, "(", depth)?;
-    text.push_str("1")?;
-    push_times(&mut text, ")", depth)?;
-    text.push_str(") }\nend\n")?;
-    Ok(text)
+pub(crate) fn in_parentheses(rt: &impl Abort, alloc: Global, depth: u64) -> String {
+    let head = "workload 1\nsites 1\ntransaction t() { print(";
+    let mut text = String::from_str(alloc, head).expect(rt, "memory");
+    push_times(rt, &mut text, "(", depth);
+    text.push_str("1").expect(rt, "memory");
+    push_times(rt, &mut text, ")", depth);
+    text.push_str(") }\nend\n").expect(rt, "memory");
+    text
 }
 
 /// A transaction of this command and others like it, and a client that calls it so many times and once.
 pub(crate) fn called(
+    rt: &impl Abort,
     alloc: Global,
     command: &str,
     other_commands: u64,
     other_calls: u64,
-) -> Result<String, Fail> {
-    let mut text = String::from_str(alloc, "workload 1\nsites 1\ntransaction t() { ")?;
-    push_list(&mut text, command, other_commands)?;
-    text.push_str(" }\nclient a at 0 { ")?;
-    push_list(&mut text, "t()", other_calls)?;
-    text.push_str(" }\nend\n")?;
-    Ok(text)
+) -> String {
+    let head = "workload 1\nsites 1\ntransaction t() { ";
+    let mut text = String::from_str(alloc, head).expect(rt, "memory");
+    push_list(rt, &mut text, command, other_commands);
+    text.push_str(" }\nclient a at 0 { ").expect(rt, "memory");
+    push_list(rt, &mut text, "t()", other_calls);
+    text.push_str(" }\nend\n").expect(rt, "memory");
+    text
 }

@@ -4,14 +4,15 @@ use crate::same::same;
 use homeo_syntax::{List, Text};
 use homeo_words::Command;
 use std::alloc::Global;
-use std::test::Fail;
+use std::process::Abort;
 
-fn command_of(alloc: Global, words: &[&str]) -> Result<Option<Command>, Fail> {
+fn command_of(rt: &impl Abort, alloc: Global, words: &[&str]) -> Option<Command> {
     let mut list = List::new(alloc);
     for word in words {
-        list.push(Text::of(alloc, word)?)?;
+        let word = Text::of(alloc, word).expect(rt, "memory");
+        list.push(word).expect(rt, "memory");
     }
-    Ok(Command::of(alloc, &list)?)
+    Command::of(alloc, &list).expect(rt, "memory")
 }
 
 /// Words, and the command that they are.
@@ -50,31 +51,28 @@ const OTHERS: [&[&str]; 18] = [
 ];
 
 #[test]
-fn each_command_has_its_words(rt: HostRuntime) -> Result<(), Fail> {
+fn each_command_has_its_words(rt: HostRuntime) {
     for (words, wanted) in COMMANDS {
-        let command = command_of(rt.alloc(), words)?;
+        let command = command_of(&rt, rt.alloc(), words);
         same(&rt, &command, &Some(wanted));
     }
-    Ok(())
 }
 
 #[test]
-fn the_largest_numbers_are_taken_with_zeros_in_front(rt: HostRuntime) -> Result<(), Fail> {
+fn the_largest_numbers_are_taken_with_zeros_in_front(rt: HostRuntime) {
     let words = ["load", "18446744073709551615", "00000000000000020000"];
     let wanted = Command::Load {
         number: 18446744073709551615,
         calls: 20_000,
     };
-    let command = command_of(rt.alloc(), &words)?;
+    let command = command_of(&rt, rt.alloc(), &words);
     same(&rt, &command, &Some(wanted));
-    Ok(())
 }
 
 #[test]
-fn other_words_are_no_command(rt: HostRuntime) -> Result<(), Fail> {
+fn other_words_are_no_command(rt: HostRuntime) {
     for words in OTHERS {
-        let command = command_of(rt.alloc(), words)?;
+        let command = command_of(&rt, rt.alloc(), words);
         same(&rt, &command, &None);
     }
-    Ok(())
 }

@@ -7,8 +7,8 @@ use Rattle.homeo_meaning.specs.Ground.{plain_ground}
 use Rattle.homeo_ground.specs.Grounding.{IsCalled}
 use Rattle.homeo_plan_tests.proofs.calls.first.Goals as goal
 
-pub returns-in-len1-up : goal.returns-in-len1-up
-returns-in-len1-up c =
+pub returns : goal.returns
+returns g c =
     let Called = IsCalled (plain_workload c.args.w.now) in
     let call = c.call-item.result in
     let some : 0 < length c.args.calls.now = omega arith in

@@ -5,8 +5,8 @@ use Rattle.homeo_plan_tests.proofs.formulas.a_bound_of_an_object_is_one_form_of_
 
 pub atoms-requires-clause-holds : goal.atoms-requires-clause-holds
 atoms-requires-clause-holds g c =
-    formula_holds (plain_lcond c.in_ok-formula.formula) c.in_ok-base.base.items c.in_ok-formula.ensures c.in_ok-base.ensures
+    formula_holds (plain_lcond c.at_most_five-formula.result) c.base-base.result.items c.at_most_five-formula.ensures c.base-base.ensures
 
 pub atoms-requires-clause-small : goal.atoms-requires-clause-small
 atoms-requires-clause-small g c =
-    formula_small (plain_lcond c.in_ok-formula.formula) c.in_ok-base.base.items c.in_ok-formula.ensures c.in_ok-base.ensures
+    formula_small (plain_lcond c.at_most_five-formula.result) c.base-base.result.items c.at_most_five-formula.ensures c.base-base.ensures

@@ -4,8 +4,8 @@ use Rattle.homeo_plan_tests.proofs.ObjectExample.{residual_straight, residual_sm
 use Rattle.homeo_plan_tests.proofs.needs.a_site_that_prints_an_object_needs_the_delta_of_the_other.Goals as goal
 
 pub needs-requires-clause-straight : goal.needs-requires-clause-straight
-needs-requires-clause-straight g c = residual_straight (plain_residual c.in_ok-residual.residual) c.in_ok-residual.ensures
+needs-requires-clause-straight g c = residual_straight (plain_residual c.printed-residual.result) c.printed-residual.ensures
 
 pub needs-requires-clause-small : goal.needs-requires-clause-small
 needs-requires-clause-small g c =
-    residual_small (plain_residual c.in_ok-residual.residual) c.in_ok-base.base.items c.in_ok-residual.ensures c.in_ok-base.ensures
+    residual_small (plain_residual c.printed-residual.result) c.base-base.result.items c.printed-residual.ensures c.base-base.ensures

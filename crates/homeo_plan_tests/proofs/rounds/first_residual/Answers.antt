@@ -5,5 +5,5 @@ use Rattle.homeo_meaning.specs.Ground.{plain_ground}
 use Rattle.homeo_plan_tests.proofs.rounds.first_residual.Goals as goal
 
 pub residual-requires-clause-number : goal.residual-requires-clause-number
-residual-requires-clause-number c =
+residual-requires-clause-number g c =
     omega (arith, eqb-false _ _ (sym c.if-is_empty.ensures), ap length c.calls.ensures, length-map c.calls.result.now plain_ground)

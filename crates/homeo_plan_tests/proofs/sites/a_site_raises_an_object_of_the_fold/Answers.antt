@@ -1,5 +1,6 @@
 -- The command can be transformed and run, and the database folded before and after it.
 use Rattle.std.proofs.Common.{ap, ◌∙◌}
+use Rattle.std.proofs.lemmas.Result.{IfOk-at_ok}
 use Rattle.homeo_syntax.specs.Low.{Command}
 use Rattle.homeo_syntax.specs.LowView.{plain_lcommand}
 use Rattle.homeo_plan.specs.Split.{shift}
@@ -7,25 +8,25 @@ use Rattle.homeo_plan_tests.proofs.SplitExample.{raise-whole, has_sites, can_shi
 use Rattle.homeo_plan_tests.proofs.sites.a_site_raises_an_object_of_the_fold.Goals as goal
 
 pub fold-requires : goal.fold-requires
-fold-requires g c = record { fits = start_sums c.in_ok-split.split c.in_ok-split.ensures }
+fold-requires g c = record { fits = start_sums c.start-split.result c.start-split.ensures }
 
 pub transform-requires-clause-whole : goal.transform-requires-clause-whole
-transform-requires-clause-whole g c = raise-whole (plain_lcommand c.in_ok-command.command) c.in_ok-command.ensures
+transform-requires-clause-whole g c = raise-whole (plain_lcommand c.raise-command.result) c.raise-command.ensures
 
 pub eval_l-requires-clause-places : goal.eval_l-requires-clause-places
 eval_l-requires-clause-places g c =
-    has_sites c.in_ok-split.split (plain_lcommand c.in_ok-shifted.shifted) c.in_ok-split.ensures
-    (c.in_ok-shifted.ensures.form ∙ ap (λ (t : Command). shift 2 1 t) c.in_ok-command.ensures)
+    has_sites c.start-split.result (plain_lcommand c.expect-shifted.result) c.start-split.ensures
+    ((IfOk-at_ok _ c.expect-shifted.ensures c.transform.ensures.form) ∙ ap (λ (t : Command). shift 2 1 t) c.raise-command.ensures)
 
 pub eval_l-requires-clause-small : goal.eval_l-requires-clause-small
 eval_l-requires-clause-small g c =
-    can_shift c.in_ok-split.split (plain_lcommand c.in_ok-shifted.shifted) c.in_ok-split.ensures
-    (c.in_ok-shifted.ensures.form ∙ ap (λ (t : Command). shift 2 1 t) c.in_ok-command.ensures)
+    can_shift c.start-split.result (plain_lcommand c.expect-shifted.result) c.start-split.ensures
+    ((IfOk-at_ok _ c.expect-shifted.ensures c.transform.ensures.form) ∙ ap (λ (t : Command). shift 2 1 t) c.raise-command.ensures)
 
 pub fold-requires-2 : goal.fold-requires-2
 fold-requires-2 g c =
     record {
-      fits = raised_sums c.in_ok-split.split c.eval_l.new.database (plain_lcommand c.in_ok-shifted.shifted) c.in_ok-split.ensures
-          (c.in_ok-shifted.ensures.form ∙ ap (λ (t : Command). shift 2 1 t) c.in_ok-command.ensures)
-          c.in_ok-prints.ensures.database c.eval_l.ensures.shape;
+      fits = raised_sums c.start-split.result c.eval_l.new.database (plain_lcommand c.expect-shifted.result) c.start-split.ensures
+          ((IfOk-at_ok _ c.expect-shifted.ensures c.transform.ensures.form) ∙ ap (λ (t : Command). shift 2 1 t) c.raise-command.ensures)
+          (IfOk-at_ok _ c.expect-prints.ensures c.eval_l.ensures.database) c.eval_l.ensures.shape;
     }

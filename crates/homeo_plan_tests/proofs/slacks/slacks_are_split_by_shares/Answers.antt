@@ -11,19 +11,19 @@ use Rattle.homeo_plan_tests.proofs.slacks.slacks_are_split_by_shares.Goals as go
 pub split_weighted-requires-clause-not_negative : goal.split_weighted-requires-clause-not_negative
 unfolding definitions
 split_weighted-requires-clause-not_negative g c =
-    not_negative (plain_template c.in_ok-template.template).clauses (pos 4) (pos 6) c.in_ok-template.ensures.clauses (omega arith) (omega arith)
+    not_negative (plain_template c.slacks_of-template.result).clauses (pos 4) (pos 6) c.slacks_of-template.ensures.clauses (omega arith) (omega arith)
 
 pub split_weighted-requires-clause-small : goal.split_weighted-requires-clause-small
 unfolding definitions
 split_weighted-requires-clause-small g c =
-    small (plain_template c.in_ok-template.template).clauses (pos 4) (pos 6) c.in_ok-template.ensures.clauses (omega arith) (omega arith)
+    small (plain_template c.slacks_of-template.result).clauses (pos 4) (pos 6) c.slacks_of-template.ensures.clauses (omega arith) (omega arith)
 
 pub split_weighted-requires-clause-lists : goal.split_weighted-requires-clause-lists
 split_weighted-requires-clause-lists g c =
     ap length c.as_slice.ensures.value
-    ∙ count c.in_ok-shares.shares.items (plain_template c.in_ok-template.template).clauses (pos 4) (pos 6) c.in_ok-shares.ensures c.in_ok-template.ensures.clauses
+    ∙ count c.shares_of_two-shares.result.items (plain_template c.slacks_of-template.result).clauses (pos 4) (pos 6) c.shares_of_two-shares.ensures c.slacks_of-template.ensures.clauses
 
 pub split_weighted-requires-clause-shares : goal.split_weighted-requires-clause-shares
 split_weighted-requires-clause-shares g c =
-    subst (Each (λ (l : Listed ℤ). CanShare c.in_ok-template.template.sites l.items)) (sym c.as_slice.ensures.value)
-    (subst (λ (k : ℕ). Each (λ (l : Listed ℤ). CanShare k l.items) c.in_ok-shares.shares.items) (sym c.in_ok-template.ensures.sites) (can_share_each c.in_ok-shares.shares.items c.in_ok-shares.ensures))
+    subst (Each (λ (l : Listed ℤ). CanShare c.slacks_of-template.result.sites l.items)) (sym c.as_slice.ensures.value)
+    (subst (λ (k : ℕ). Each (λ (l : Listed ℤ). CanShare k l.items) c.shares_of_two-shares.result.items) (sym c.slacks_of-template.ensures.sites) (can_share_each c.shares_of_two-shares.result.items c.shares_of_two-shares.ensures))

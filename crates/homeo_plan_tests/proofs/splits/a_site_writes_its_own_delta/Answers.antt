@@ -4,7 +4,7 @@ use Rattle.homeo_plan_tests.proofs.SplitExample.{own_places, own_runs}
 use Rattle.homeo_plan_tests.proofs.splits.a_site_writes_its_own_delta.Goals as goal
 
 pub eval_l-requires-clause-places : goal.eval_l-requires-clause-places
-eval_l-requires-clause-places g c = own_places c.in_ok-state.state (plain_lcommand c.in_ok-command.command) c.in_ok-state.ensures c.in_ok-command.ensures
+eval_l-requires-clause-places g c = own_places c.start-state.result (plain_lcommand c.raise_own-command.result) c.start-state.ensures c.raise_own-command.ensures
 
 pub eval_l-requires-clause-small : goal.eval_l-requires-clause-small
-eval_l-requires-clause-small g c = own_runs c.in_ok-state.state (plain_lcommand c.in_ok-command.command) c.in_ok-state.ensures c.in_ok-command.ensures
+eval_l-requires-clause-small g c = own_runs c.start-state.result (plain_lcommand c.raise_own-command.result) c.start-state.ensures c.raise_own-command.ensures

@@ -4,18 +4,18 @@ use Rattle.homeo_meaning.specs.Key.{definitions}
 use Rattle.homeo_plan_tests.proofs.AtomExample.{small}
 use Rattle.homeo_plan_tests.proofs.templates.sets.Goals as goal
 
-pub pair-requires-clause-first : goal.pair-requires-clause-first
+pub pair-one-requires-clause-first : goal.pair-one-requires-clause-first
 unfolding definitions
-pair-requires-clause-first c = small c.in_ok-first.first.form.constant (negsuc 4) c.in_ok-first.ensures refl
+pair-one-requires-clause-first g c = small c.atom-first.result.form.constant (negsuc 4) c.atom-first.ensures refl
 
-pub pair-requires-clause-second : goal.pair-requires-clause-second
+pub pair-one-requires-clause-second : goal.pair-one-requires-clause-second
 unfolding definitions
-pair-requires-clause-second c = small c.in_ok-without_terms.without_terms.form.constant (pos 0) c.in_ok-without_terms.ensures refl
+pair-one-requires-clause-second g c = small c.atom-without_terms.result.form.constant (pos 0) c.atom-without_terms.ensures refl
 
-pub pair-requires-2-clause-first : goal.pair-requires-2-clause-first
+pub pair-other-requires-clause-first : goal.pair-other-requires-clause-first
 unfolding definitions
-pair-requires-2-clause-first c = small c.in_ok-third.third.form.constant (negsuc 1) c.in_ok-third.ensures refl
+pair-other-requires-clause-first g c = small c.atom-third.result.form.constant (negsuc 1) c.atom-third.ensures refl
 
-pub pair-requires-2-clause-second : goal.pair-requires-2-clause-second
+pub pair-other-requires-clause-second : goal.pair-other-requires-clause-second
 unfolding definitions
-pair-requires-2-clause-second c = small c.in_ok-again.again.form.constant (negsuc 4) c.in_ok-again.ensures refl
+pair-other-requires-clause-second g c = small c.atom-again.result.form.constant (negsuc 4) c.atom-again.ensures refl

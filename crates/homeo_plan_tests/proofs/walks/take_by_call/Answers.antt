@@ -1,5 +1,6 @@
 -- The call can be transformed, and then executed.
 use Rattle.std.proofs.Common.{ap, ◌∙◌, sym, subst, arith}
+use Rattle.std.proofs.lemmas.Result.{IfOk-at_ok}
 use Rattle.homeo_syntax.specs.Low.{Command}
 use Rattle.homeo_syntax.specs.LowView.{plain_lcommand}
 use Rattle.homeo_syntax.specs.SourceView.{plain_workload}
@@ -11,19 +12,19 @@ use Rattle.homeo_plan_tests.proofs.CallExample.{can_run, can_take}
 use Rattle.homeo_plan_tests.proofs.walks.take_by_call.Goals as goal
 
 pub transform-requires-clause-whole : goal.transform-requires-clause-whole
-transform-requires-clause-whole c =
-    subst IsWhole (sym c.in_ok-form.ensures.form) (ground_whole (plain_workload c.args.w.now) (plain_ground c.args.call.now))
+transform-requires-clause-whole g c =
+    subst IsWhole (sym (IfOk-at_ok _ c.expect-form.ensures c.desugar.ensures.form)) (ground_whole (plain_workload c.args.w.now) (plain_ground c.args.call.now))
 
-pub take-requires-clause-walked : goal.take-requires-clause-walked
-take-requires-clause-walked c =
+pub take-taken-requires-clause-walked : goal.take-taken-requires-clause-walked
+take-taken-requires-clause-walked g c =
     can_run (plain_workload c.args.w.now) (plain_ground c.args.call.now) c.args.database.now.items 0
     c.workload-workload.ensures.accepted c.requires.called.made c.requires.within (omega arith)
-    c.in_ok-base.base (plain_lcommand c.in_ok-shifted.shifted) c.in_ok-base.ensures
-    (c.in_ok-shifted.ensures.form ∙ ap (λ (t : Command). shift 2 0 t) c.in_ok-form.ensures.form)
+    c.undivided-base.result (plain_lcommand c.expect-shifted.result) c.undivided-base.ensures
+    ((IfOk-at_ok _ c.expect-shifted.ensures c.transform.ensures.form) ∙ ap (λ (t : Command). shift 2 0 t) (IfOk-at_ok _ c.expect-form.ensures c.desugar.ensures.form))
 
-pub take-requires-clause-taken : goal.take-requires-clause-taken
-take-requires-clause-taken c =
+pub take-taken-requires-clause-taken : goal.take-taken-requires-clause-taken
+take-taken-requires-clause-taken g c =
     can_take (plain_workload c.args.w.now) (plain_ground c.args.call.now) c.args.database.now.items 0
     c.workload-workload.ensures.accepted c.requires.called.made c.requires.within (omega arith)
-    c.in_ok-base.base (plain_lcommand c.in_ok-shifted.shifted) c.in_ok-base.ensures
-    (c.in_ok-shifted.ensures.form ∙ ap (λ (t : Command). shift 2 0 t) c.in_ok-form.ensures.form)
+    c.undivided-base.result (plain_lcommand c.expect-shifted.result) c.undivided-base.ensures
+    ((IfOk-at_ok _ c.expect-shifted.ensures c.transform.ensures.form) ∙ ap (λ (t : Command). shift 2 0 t) (IfOk-at_ok _ c.expect-form.ensures c.desugar.ensures.form))

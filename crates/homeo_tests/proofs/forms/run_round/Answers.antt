@@ -7,8 +7,8 @@ use Rattle.homeo_meaning.specs.Ground.{plain_ground}
 use Rattle.homeo_ground.specs.Grounding.{IsCalled}
 use Rattle.homeo_tests.proofs.forms.run_round.Goals as goal
 
-pub run_both-requires-clause-called : goal.run_both-requires-clause-called
-run_both-requires-clause-called g c =
+pub run_both-prints-requires-clause-called : goal.run_both-prints-requires-clause-called
+run_both-prints-requires-clause-called g c =
     let Called = IsCalled (plain_workload c.args.w.now) in
     let i = c.loop-call.call-index in
     let call = c.call-item.result in

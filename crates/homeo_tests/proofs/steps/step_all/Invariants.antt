@@ -3,4 +3,4 @@ use Rattle.std.proofs.Common.{◌≡◌}
 use Rattle.homeo_tests.proofs.steps.step_all.Given as goal
 
 abbrev pub invariant-loop-client : goal.invariant-loop-client
-invariant-loop-client l = l.core.work ≡ l.initial.core.work
+invariant-loop-client g l = l.core.work ≡ l.initial.core.work

@@ -10,7 +10,7 @@ use Rattle.homeo_meaning.specs.Context.{object_count}
 use Rattle.homeo_meaning.specs.Schema.{declared_range, declared_relation, nat_of}
 use Rattle.homeo_meaning.proofs.SoundRules.{all_none, all_more}
 use Rattle.homeo_context.specs.Placed.{HasSlots}
-use Rattle.homeo_tests.proofs.sizes.measured.Goals as goal
+use Rattle.homeo_plan_tests.proofs.sizes.measured.Goals as goal
 
 one_slotted : (w : Workload) (r : RelationDecl) (slots : ℕ) → w.relations.items ≡ r ∷ [] → r.slots.value ≡ pos slots → 1 ≤ slots → slots ≤ 64 → All HasSlots w.relations.items
 unfolding meaning_definitions
@@ -26,9 +26,9 @@ few w r slots is o s f h =
     subst (λ n. n ≤ 1024) (sym (λ i. object_count (o i) (map declared_relation (map plain_relation (is i))))) all
 
 pub of-requires-clause-slots : goal.of-requires-clause-slots
-of-requires-clause-slots c =
-    one_slotted c.in_ok-workload.workload c.in_ok-relation.relation c.args.slots c.in_ok-workload.ensures.relations c.in_ok-relation.ensures.slots c.requires.least c.requires.most
+of-requires-clause-slots g c =
+    one_slotted c.workload-workload.result c.relation-relation.result c.args.slots c.workload-workload.ensures.relations c.relation-relation.ensures.slots c.requires.least c.requires.most
 
 pub of-requires-clause-few : goal.of-requires-clause-few
-of-requires-clause-few c =
-    few c.in_ok-workload.workload c.in_ok-relation.relation c.args.slots c.in_ok-workload.ensures.relations c.in_ok-workload.ensures.objects c.in_ok-relation.ensures.slots c.in_ok-relation.ensures.fields c.requires.most
+of-requires-clause-few g c =
+    few c.workload-workload.result c.relation-relation.result c.args.slots c.workload-workload.ensures.relations c.workload-workload.ensures.objects c.relation-relation.ensures.slots c.relation-relation.ensures.fields c.requires.most

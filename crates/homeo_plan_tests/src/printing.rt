@@ -6,7 +6,6 @@ use homeo_reader::read;
 use homeo_syntax::Workload;
 use std::alloc::Global;
 use std::process::Abort;
-use std::test::Fail;
 
 /// Every command and every expression, laid out as no one would.
 const CROWDED: &str =
@@ -24,32 +23,31 @@ const PRINTED_2: &str =
 
 fn read_back(rt: &impl Abort, alloc: Global, text: &[u8]) -> Workload {
     assert!(rt; text.len() <= 1_048_576);
-    match read(alloc, text) {
-        Ok(workload) => workload,
-        Err(_) => panic!(rt; "the text reads"),
-    }
+    read(alloc, text).expect(rt, "the text reads")
 }
 
 /// The text of a workload's copy.
-fn printed(alloc: Global, w: &Workload) -> Result<Vec<u8>, Fail> {
-    let copy = w.copy(alloc)?;
-    Ok(print(alloc, &copy)?)
+fn printed(rt: &impl Abort, alloc: Global, w: Workload) -> Vec<u8> {
+    let copy = w.copy(alloc).expect(rt, "memory");
+    drop(w);
+    let text = print(alloc, &copy).expect(rt, "memory");
+    drop(copy);
+    text
 }
 
 /// The text of what a text reads as.
-fn printed_back(rt: &impl Abort, alloc: Global, text: &[u8]) -> Result<Vec<u8>, Fail> {
+fn printed_back(rt: &impl Abort, alloc: Global, text: &[u8]) -> Vec<u8> {
     let workload = read_back(rt, alloc, text);
-    printed(alloc, &workload)
+    printed(rt, alloc, workload)
 }
 
 #[test]
-fn what_is_copied_and_printed_reads_back(rt: HostRuntime) -> Result<(), Fail> {
+fn what_is_copied_and_printed_reads_back(rt: HostRuntime) {
     let alloc = rt.alloc();
     for (text, printed) in [(CROWDED, PRINTED), (CROWDED_2, PRINTED_2)] {
-        let first = printed_back(&rt, alloc, text.as_bytes())?;
+        let first = printed_back(&rt, alloc, text.as_bytes());
         same_items(&rt, first.as_slice(), printed.as_bytes());
-        let second = printed_back(&rt, alloc, first.as_slice())?;
+        let second = printed_back(&rt, alloc, first.as_slice());
         same_items(&rt, second.as_slice(), printed.as_bytes());
     }
-    Ok(())
 }

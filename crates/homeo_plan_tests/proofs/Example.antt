@@ -14,7 +14,7 @@ use Rattle.homeo_meaning.specs.Faults.{faults}
 use Rattle.homeo_meaning.specs.declared.call.CallId.{CallId}
 use Rattle.homeo_meaning.specs.declared.call.Purpose.TheVariants.{Run}
 use Rattle.homeo_meaning.proofs.SoundRules.{all_none, all_more}
-use Rattle.homeo_tests.specs.inner.Example.{sale, example}
+use Rattle.homeo_plan_tests.specs.inner.Example.{sale, example}
 
 no_faults : faults Run example ≡ []
 unfolding meaning_definitions syntax_definitions

@@ -1,8 +1,0 @@
--- The workload is accepted.
-use Rattle.std.proofs.Common.{subst, sym}
-use Rattle.homeo_meaning.specs.Acceptance.{IsAccepted}
-use Rattle.homeo_tests.proofs.Example.{example-accepted}
-use Rattle.homeo_tests.proofs.evaluation.accepted.Goals as goal
-
-pub new-requires : goal.new-requires
-new-requires c = subst IsAccepted (sym c.in_ok-workload.ensures) example-accepted
