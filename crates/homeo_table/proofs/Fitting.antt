@@ -12,8 +12,8 @@ use Rattle.homeo_plan.specs.Key.{definitions as plan_definitions}
 use Rattle.homeo_plan.specs.Table.{HasNoTemps}
 use Rattle.homeo_split.specs.Key.{definitions as split_definitions}
 use Rattle.homeo_split.specs.CanExec.{run_limit, expr_fits, sum_fits, product_fits, test_fits, cond_fits}
-use Rattle.homeo_table.specs.inner.Key.{definitions}
-use Rattle.homeo_table.specs.inner.Substitution.{substituted, substituted_all, substituted_test, substituted_cond}
+use Rattle.homeo_substitution.specs.Key.{definitions as substitution_definitions}
+use Rattle.homeo_substitution.specs.Substitution.{substituted, substituted_all, substituted_test, substituted_cond}
 use Rattle.homeo_table.specs.inner.Walks.{value_or, after, fits_if}
 
 module _ (b : Location → Option Expr) (s : State) (temps : HasNoTemps s) where
@@ -29,7 +29,7 @@ module _ (b : Location → Option Expr) (s : State) (temps : HasNoTemps s) where
   value-read (Some e) x = refl
 
   mutual
-    unfolding definitions meaning_definitions plan_definitions
+    unfolding substitution_definitions meaning_definitions plan_definitions
 
     pub value-after : (e : Expr) → value (substituted b e) s ≡ value e (after b s)
     value-after (Literal n) = refl
@@ -50,7 +50,7 @@ module _ (b : Location → Option Expr) (s : State) (temps : HasNoTemps s) where
         product-after es (n *ℤ value (substituted b e) s) ∙ ap (λ v. product_value (n *ℤ v) es (after b s)) (value-after e)
 
   mutual
-    unfolding definitions meaning_definitions
+    unfolding substitution_definitions meaning_definitions
 
     passes-after : (t : Test) → passes (substituted_test b t) s ≡ passes t (after b s)
     passes-after True = refl
@@ -83,7 +83,7 @@ module _ (b : Location → Option Expr) (s : State) (temps : HasNoTemps s) where
     fits-read (Some e) x h k = h
 
     mutual
-      unfolding definitions meaning_definitions split_definitions
+      unfolding substitution_definitions meaning_definitions split_definitions
 
       pub fits-after : (e : Expr) → expr_fits run_limit e (after b s) ≡ true → expr_fits run_limit (substituted b e) s ≡ true
       fits-after (Literal n) h = h
@@ -118,7 +118,7 @@ module _ (b : Location → Option Expr) (s : State) (temps : HasNoTemps s) where
     where-passes false x y f h = refl
 
     mutual
-      unfolding definitions meaning_definitions split_definitions
+      unfolding substitution_definitions meaning_definitions split_definitions
 
       test-fits-after : (t : Test) → test_fits run_limit t (after b s) ≡ true → test_fits run_limit (substituted_test b t) s ≡ true
       test-fits-after True h = refl

@@ -15,8 +15,8 @@ use Rattle.homeo_split.specs.Key.{definitions as split_definitions}
 use Rattle.homeo_split.specs.CanExec.{run_limit, expr_fits, cond_fits, can_exec, can_exec_all}
 use Rattle.homeo_split.specs.States.{state_of}
 use Rattle.homeo_split.specs.declared.split.Split.{Split}
-use Rattle.homeo_table.specs.inner.Key.{definitions}
-use Rattle.homeo_table.specs.inner.Substitution.{substituted, substituted_cond}
+use Rattle.homeo_substitution.specs.Key.{definitions as substitution_definitions}
+use Rattle.homeo_substitution.specs.Substitution.{substituted, substituted_cond}
 use Rattle.homeo_table.specs.inner.Walks.{after, fits_if}
 use Rattle.homeo_table.proofs.Fitting.{holds-after, after-put, fits-put, cond-fits-after}
 use Rattle.homeo_table.proofs.Held.{no_temps}
@@ -86,7 +86,7 @@ module _ (s : State) (temps : HasNoTemps s) where
   fits-otherwise :
       (b : Location → Option Expr) (t : Cond) (r : Row) → cond_fits run_limit (substituted_cond b t) s ≡ true →
       (holds (substituted_cond b t) s ≡ false → Fits b r) → Fits b (test_before (otherwise t) r)
-  unfolding definitions plan_definitions
+  unfolding substitution_definitions plan_definitions
   fits-otherwise b t r asked h = otherwise-fits s (substituted_cond b r.formula) (substituted_cond b t) asked h
 
   -- the rows of the branch that is taken fit, and those of the other fail at its condition
@@ -135,7 +135,7 @@ module _ (s : State) (temps : HasNoTemps s) where
         fit-before c st (all_before cs rows) k.0 (fit-all-before cs (exec c st).state rows k.1 h)
 
   fit-table : (c : Command) → can_exec run_limit c s ≡ true → All (λ r. cond_fits run_limit r.formula s ≡ true) (table c)
-  unfolding plan_definitions split_definitions definitions
+  unfolding plan_definitions split_definitions substitution_definitions
   fit-table c can =
       let rows = fit-before c s (last_row ∷ []) can (λ b fits is. All-cons (Fits b) last_row [] refl (All-nil (Fits b))) (λ l. None) (λ l. refl) refl in
       All-map (λ r. cond_fits run_limit r.formula s ≡ true) clear_row (before c (last_row ∷ []))

@@ -11,8 +11,9 @@ use Rattle.homeo_plan.specs.Key.{definitions as plan_definitions}
 use Rattle.homeo_plan.specs.Table.{Row, both, set_before, test_before, otherwise, clear_row, last_row}
 use Rattle.homeo_table.specs.inner.Key.{definitions}
 use Rattle.homeo_table.specs.inner.Makings.{and_then, row_with, command_before}
-use Rattle.homeo_table.specs.inner.Substitution.{substituted, substituted_test, substituted_cond}
-use Rattle.homeo_table.proofs.Equations.{substituted-tests}
+use Rattle.homeo_substitution.specs.Key.{definitions as substitution_definitions}
+use Rattle.homeo_substitution.specs.Substitution.{substituted, substituted_test, substituted_cond}
+use Rattle.homeo_substitution.proofs.Equations.{substituted-tests}
 use Rattle.homeo_table.proofs.Substituted.{put-cond, substituted-both, none-cond}
 
 abbrev pub row_of : Cond → Commands → Row
@@ -95,11 +96,11 @@ row-tests ts ts' us cs s b e h =
 pub row-fails :
     (xs ys : List LTest) (cs : List Command) (s : Location → Option Expr) (x : LTest) (b : Cond) → ys ≡ xs ++ x ∷ [] →
     plain_ltest x ≡ Not (substituted_cond s b) → row_with (map plain_ltest ys) cs s ≡ (λ r. row_with (map plain_ltest xs) cs s (test_before (otherwise b) r))
-unfolding definitions plan_definitions syntax_definitions
+unfolding substitution_definitions plan_definitions syntax_definitions
 row-fails xs ys cs s x b e h =
     row-tests (map plain_ltest xs) (map plain_ltest ys) (Not b ∷ []) cs s (otherwise b)
     (ap (map plain_ltest) e ∙ map_push plain_ltest xs x ∙ ap (λ t. map plain_ltest xs ++ t ∷ []) h) refl
 
 pub row-last : (ts : List Test) (cs : List Command) (s : Location → Option Expr) → row_of (low_tests ts) (low_commands cs) ≡ row_with ts cs s last_row
-unfolding definitions plan_definitions
+unfolding substitution_definitions plan_definitions
 row-last ts cs s = ap₂ row_of (sym (both-none (low_tests ts))) (sym (then-none cs))

@@ -12,7 +12,7 @@ use Rattle.homeo_split.specs.Places.{plain_place}
 use Rattle.homeo_split.proofs.SamePlaces.{is_at}
 use Rattle.homeo_table.specs.declared.reached.Reached.{Reached}
 use Rattle.homeo_table.specs.inner.Reached.{set_to, reached}
-use Rattle.homeo_table.proofs.Bound.{put-at}
+use Rattle.homeo_substitution.proofs.Bound.{put-at}
 
 pub reached-new : (r : Reached) → IsEmpty r.set → reached r ≡ whole (values_of r.base.now)
 unfolding set_to

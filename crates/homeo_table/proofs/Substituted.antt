@@ -1,27 +1,13 @@
 -- An expression put in at a place, and then others: as where it stands there, with the others in it.
-use Rattle.std.proofs.Common.{◌≡◌, Bool, true, false, cond, Option, Some, None, pos, refl, sym, ap, ap₂, ◌∙◌}
+use Rattle.std.proofs.Common.{◌≡◌, Bool, true, false, cond, Option, Some, None, pos, refl, sym, ap, ap₂}
 use Rattle.std.specs.Option.{unwrap_or}
-use Rattle.homeo_syntax.specs.declared.low.Temp.{Temp}
-use Rattle.homeo_syntax.specs.declared.low.SplitName.{SplitName}
 use Rattle.homeo_syntax.specs.Low.{Expr, Exprs, Literal, OfTemp, Read, Sum, Product, Neg, NoExpr, MoreExpr, Test, Cond, True, Not, Comparison, NoTest, MoreTest}
 use Rattle.homeo_meaning.specs.Key.{definitions as meaning_definitions}
 use Rattle.homeo_meaning.specs.LowMeaning.{Location, TempAt, location_of, same_location, put}
 use Rattle.homeo_plan.specs.Key.{definitions as plan_definitions}
 use Rattle.homeo_plan.specs.Table.{replace, replace_all, replace_test, replace_cond, both, clear, clear_all, clear_test, clear_cond}
-use Rattle.homeo_table.specs.inner.Key.{definitions}
-use Rattle.homeo_table.specs.inner.Substitution.{substituted, substituted_all, substituted_test, substituted_cond}
-
-pub substituted-temp :
-    (s : Location → Option Expr) (t : Temp) (l : Location) (o : Option Expr) → o ≡ s l → l ≡ TempAt t →
-    unwrap_or o (Literal (pos 0)) ≡ substituted s (OfTemp t)
-unfolding definitions
-substituted-temp s t l o e h = ap (λ o. unwrap_or o (Literal (pos 0))) (e ∙ ap s h)
-
-pub substituted-read :
-    (s : Location → Option Expr) (x : SplitName) (l : Location) (o : Option Expr) → o ≡ s l → l ≡ location_of x →
-    unwrap_or o (Read x) ≡ substituted s (Read x)
-unfolding definitions
-substituted-read s x l o e h = ap (λ o. unwrap_or o (Read x)) (e ∙ ap s h)
+use Rattle.homeo_substitution.specs.Key.{definitions as substitution_definitions}
+use Rattle.homeo_substitution.specs.Substitution.{substituted, substituted_all, substituted_test, substituted_cond}
 
 module _ (s : Location → Option Expr) where
   chosen : (b : Bool) (e a d : Expr) (o : Option Expr) → substituted s a ≡ unwrap_or o d → unwrap_or (cond b (Some (substituted s e)) o) d ≡ substituted s (cond b e a)
@@ -30,7 +16,7 @@ module _ (s : Location → Option Expr) where
 
   module _ (p : Location) (e : Expr) where
     mutual
-      unfolding definitions meaning_definitions plan_definitions
+      unfolding substitution_definitions meaning_definitions plan_definitions
 
       put-expr : (a : Expr) → substituted (put s p (Some (substituted s e))) a ≡ substituted s (replace p e a)
       put-expr (Literal n) = refl
@@ -45,7 +31,7 @@ module _ (s : Location → Option Expr) where
       put-exprs (MoreExpr a es) = ap₂ MoreExpr (put-expr a) (put-exprs es)
 
     mutual
-      unfolding definitions meaning_definitions plan_definitions
+      unfolding substitution_definitions meaning_definitions plan_definitions
 
       put-test : (t : Test) → substituted_test (put s p (Some (substituted s e))) t ≡ substituted_test s (replace_test p e t)
       put-test True = refl
@@ -57,13 +43,13 @@ module _ (s : Location → Option Expr) where
       put-cond (MoreTest t c) = ap₂ MoreTest (put-test t) (put-cond c)
 
   pub substituted-both : (b c : Cond) → substituted_cond s (both b c) ≡ both (substituted_cond s b) (substituted_cond s c)
-  unfolding definitions plan_definitions
+  unfolding substitution_definitions plan_definitions
   substituted-both NoTest c = refl
   substituted-both (MoreTest t b) c = ap (MoreTest (substituted_test s t)) (substituted-both b c)
 
 -- ---- where nothing is set
 mutual
-  unfolding definitions plan_definitions
+  unfolding substitution_definitions plan_definitions
 
   none-expr : (a : Expr) → substituted (λ l. None) a ≡ clear a
   none-expr (Literal n) = refl
@@ -78,7 +64,7 @@ mutual
   none-exprs (MoreExpr a es) = ap₂ MoreExpr (none-expr a) (none-exprs es)
 
 mutual
-  unfolding definitions plan_definitions
+  unfolding substitution_definitions plan_definitions
 
   none-test : (t : Test) → substituted_test (λ l. None) t ≡ clear_test t
   none-test True = refl

@@ -17,7 +17,7 @@ use Rattle.homeo_split.specs.CanExec.{run_limit, expr_fits, cond_fits, can_exec,
 use Rattle.homeo_table.specs.inner.Key.{definitions}
 use Rattle.homeo_table.specs.inner.Branches.{size, size_all}
 use Rattle.homeo_table.specs.inner.Makings.{command_before}
-use Rattle.homeo_table.specs.inner.Substitution.{substituted, substituted_cond}
+use Rattle.homeo_substitution.specs.Substitution.{substituted, substituted_cond}
 use Rattle.homeo_table.specs.inner.Walks.{after, fits_if, CanFollow, walked, Goes, to_come}
 use Rattle.homeo_table.proofs.Following.{size-some}
 use Rattle.homeo_table.proofs.Fitting.{holds-after, after-put, cond-fits-after, fits-put}

@@ -1,9 +1,6 @@
-pub mod Bindings
 pub mod Branches
 pub mod Key
 pub mod Makings
 pub mod Reached
-pub mod Shared
-pub mod Substitution
 pub mod Takings
 pub mod Walks

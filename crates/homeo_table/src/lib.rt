@@ -2,14 +2,10 @@
 //! the table, and the commands that are taken from a base.
 #![tactic(auto)]
 
-mod bindings;
 mod branches;
 mod making;
 mod reached;
 mod selection;
-mod shared;
-mod sides;
-mod substitution;
 mod tables;
 mod taking;
 mod walking;

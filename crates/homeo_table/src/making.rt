@@ -7,15 +7,14 @@ ghost use Rattle.homeo_plan.specs.PlanView.{plain_row};
 ghost use Rattle.homeo_plan.specs.Table.{last_row, set_before, test_before, otherwise, clear_row};
 ghost use Rattle.homeo_split.specs.CanExec.{run_limit, cond_fits};
 ghost use Rattle.homeo_split.specs.States.{state_of};
-ghost use Rattle.homeo_table.specs.inner.Bindings.{bound};
+ghost use Rattle.homeo_substitution.specs.Bindings.{bound};
 ghost use Rattle.homeo_table.specs.inner.Makings.{completed, command_before};
 ghost use Rattle.homeo_split.specs.Places.{plain_place};
-ghost use Rattle.homeo_table.specs.inner.Substitution.{substituted, substituted_test, substituted_cond};
+ghost use Rattle.homeo_substitution.specs.Substitution.{substituted, substituted_test, substituted_cond};
 
-use crate::bindings::Bindings;
-use crate::substitution::{condition, shared_value, test};
 use homeo_plan::Row;
 use homeo_split::{Place, Split, holds};
+use homeo_substitution::{Bindings, condition, shared_value, test};
 use homeo_syntax::{LCommand, LCond, LExpr, LTest, List, Memory};
 use std::alloc::Global;
 

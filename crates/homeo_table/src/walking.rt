@@ -7,7 +7,7 @@ ghost use Rattle.homeo_plan.specs.PlanView.{plain_row};
 ghost use Rattle.homeo_plan.specs.Table.{row_at, table, walk};
 ghost use Rattle.homeo_split.specs.CanExec.{run_limit, can_exec};
 ghost use Rattle.homeo_split.specs.States.{state_of};
-ghost use Rattle.homeo_table.specs.inner.Bindings.{bound};
+ghost use Rattle.homeo_substitution.specs.Bindings.{bound};
 ghost use Rattle.homeo_table.specs.inner.Branches.{size_all};
 ghost use Rattle.homeo_table.specs.inner.Makings.{completed};
 ghost use Rattle.homeo_table.specs.inner.Walks.{CanFollow, Goes, to_come};

@@ -5,9 +5,9 @@ use Rattle.homeo_syntax.specs.LowView.{low_tests, plain_ltest, plain_lcommand}
 use Rattle.homeo_meaning.specs.LowMeaning.{Location}
 use Rattle.homeo_plan.specs.Table.{Row, both}
 use Rattle.homeo_table.specs.declared.making.Making.{Making}
-use Rattle.homeo_table.specs.inner.Bindings.{bound}
+use Rattle.homeo_substitution.specs.Bindings.{bound}
 use Rattle.homeo_table.specs.inner.Key.{definitions}
-use Rattle.homeo_table.specs.inner.Substitution.{substituted_cond}
+use Rattle.homeo_substitution.specs.Substitution.{substituted_cond}
 
 -- commands one after another, and then others
 abbrev pub and_then : List Command → Commands → Commands

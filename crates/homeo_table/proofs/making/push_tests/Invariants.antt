@@ -1,8 +1,8 @@
 -- The tests so far are pushed.
 use Rattle.std.proofs.Common.{◌≡◌, ◌++◌, map, take}
 use Rattle.homeo_syntax.specs.LowView.{plain_ltest}
-use Rattle.homeo_table.specs.inner.Bindings.{bound}
-use Rattle.homeo_table.specs.inner.Substitution.{substituted_test}
+use Rattle.homeo_substitution.specs.Bindings.{bound}
+use Rattle.homeo_substitution.specs.Substitution.{substituted_test}
 use Rattle.homeo_table.proofs.making.push_tests.Given as goal
 
 abbrev pub invariant-loop-t : goal.invariant-loop-t

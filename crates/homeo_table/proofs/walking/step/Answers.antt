@@ -4,7 +4,7 @@ use Rattle.std.proofs.lemmas.Result.{on_ok_weaker}
 use Rattle.homeo_syntax.specs.LowView.{plain_lexpr, plain_lcond, plain_lcommand}
 use Rattle.homeo_syntax.proofs.LowViews.{low_Skip, low_Assign, low_Write, low_Print, low_Seq, low_If}
 use Rattle.homeo_split.specs.States.{state_of}
-use Rattle.homeo_table.specs.inner.Bindings.{bound}
+use Rattle.homeo_substitution.specs.Bindings.{bound}
 use Rattle.homeo_table.specs.inner.Makings.{completed}
 use Rattle.homeo_split.specs.Places.{plain_place}
 use Rattle.homeo_table.specs.inner.Walks.{after, to_come}

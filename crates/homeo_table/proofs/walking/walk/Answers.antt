@@ -6,7 +6,7 @@ use Rattle.homeo_meaning.specs.LowMeaning.{holds, exec_all}
 use Rattle.homeo_plan.specs.Table.{Row}
 use Rattle.homeo_plan.proofs.Tables.{row_at_walk, walk_holds, walk_residual}
 use Rattle.homeo_split.specs.States.{state_of}
-use Rattle.homeo_table.specs.inner.Bindings.{bound}
+use Rattle.homeo_substitution.specs.Bindings.{bound}
 use Rattle.homeo_table.specs.inner.Makings.{completed}
 use Rattle.homeo_table.specs.inner.Walks.{to_come}
 use Rattle.homeo_table.proofs.Held.{no_temps}

@@ -3,7 +3,7 @@ use Rattle.std.proofs.Common.{◌≡◌}
 use Rattle.homeo_syntax.specs.LowView.{low_commands, plain_lcommand}
 use Rattle.homeo_plan.specs.Table.{walk}
 use Rattle.homeo_split.specs.States.{state_of}
-use Rattle.homeo_table.specs.inner.Bindings.{bound}
+use Rattle.homeo_substitution.specs.Bindings.{bound}
 use Rattle.homeo_table.specs.inner.Branches.{size_all}
 use Rattle.homeo_table.specs.inner.Makings.{completed}
 use Rattle.homeo_table.specs.inner.Walks.{CanFollow, walked, to_come}

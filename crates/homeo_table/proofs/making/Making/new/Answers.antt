@@ -1,5 +1,5 @@
 -- Nothing is in front.
-use Rattle.homeo_table.specs.inner.Bindings.{bound}
+use Rattle.homeo_substitution.specs.Bindings.{bound}
 use Rattle.homeo_table.specs.inner.Makings.{completed}
 use Rattle.homeo_table.proofs.Makings.{row-new}
 use Rattle.homeo_table.proofs.making.Making.new.Goals as goal

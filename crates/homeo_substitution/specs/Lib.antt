@@ -1,0 +1,4 @@
+pub mod Bindings
+pub mod Key
+pub mod Shared
+pub mod Substitution
