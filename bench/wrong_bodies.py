@@ -25,6 +25,7 @@ INNER = {
     "homeo_io": [],
     "homeo_notes": [],
     "homeo_tokens": [],
+    "homeo_meaning": [],
     "homeo_context": [],
     "homeo_ground": [],
     "homeo_size": [],
