@@ -33,6 +33,7 @@ INNER = {
     "homeo_delta": [],
     "homeo_joint": [],
     "homeo_table": ["write_is_not_put_in"],
+    "homeo_form": [],
     "homeo_linear": ["print_needs_nothing", "tests_before_a_false_one_are_taken", "written_deltas_need_nothing"],
     "homeo_config": ["all_bounds_are_zero", "remainder_is_lost", "whole_slack_for_each"],
     "homeo_template": [],
