@@ -35,6 +35,7 @@ INNER = {
     "homeo_joint": [],
     "homeo_substitution": ["write_is_not_put_in"],
     "homeo_table": [],
+    "homeo_form": [],
     "homeo_linear": ["print_needs_nothing", "tests_before_a_false_one_are_taken", "written_deltas_need_nothing"],
     "homeo_config": ["all_bounds_are_zero", "remainder_is_lost", "whole_slack_for_each"],
     "homeo_template": [],

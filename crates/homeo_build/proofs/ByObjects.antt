@@ -42,7 +42,7 @@ use Rattle.homeo_template.specs.Places.{set_at}
 use Rattle.homeo_template.proofs.Appending.{atoms_push}
 use Rattle.homeo_template.proofs.Ordered.{none-in_order, put-in_order}
 use Rattle.homeo_template.proofs.Slacks.{small-slack}
-use Rattle.homeo_linear.proofs.DeltasInOrder.{same_deltas}
+use Rattle.homeo_form.proofs.DeltasInOrder.{same_deltas}
 use Rattle.homeo_build.specs.Key.{definitions}
 use Rattle.homeo_build.specs.Forms.{IsCallForm, HaveForms, AreForms}
 use Rattle.homeo_build.specs.declared.frozen.FrozenObjects.{FrozenObjects}

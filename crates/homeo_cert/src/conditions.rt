@@ -5,7 +5,7 @@ ghost use Rattle.homeo_syntax.specs.LowView.{low_tests, plain_lexpr, plain_ltest
 ghost use Rattle.homeo_syntax.specs.Low.{Comparison};
 ghost use Rattle.homeo_meaning.specs.Meaning.{compared};
 ghost use Rattle.homeo_meaning.specs.LowMeaning.{passes, holds};
-ghost use Rattle.homeo_linear.specs.Standing.{forms_of};
+ghost use Rattle.homeo_form.specs.Standing.{forms_of};
 ghost use Rattle.homeo_cert.specs.Met.{at_zero, met_in_test, met_in_cond};
 ghost use Rattle.homeo_cert.specs.Kept.{kept};
 ghost use Rattle.homeo_cert.specs.Followed.{too_large};
@@ -14,7 +14,7 @@ ghost use Rattle.homeo_cert.specs.inner.Stops.{Finds};
 
 use crate::fault::Stop;
 use crate::sizes::form_of;
-use homeo_linear::{Form, Standing};
+use homeo_form::{Form, Standing};
 use homeo_syntax::{Compare, LCond, LExpr, LTest, Memory};
 use std::alloc::Global;
 

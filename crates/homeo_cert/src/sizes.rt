@@ -7,14 +7,14 @@ ghost use Rattle.homeo_plan.specs.FormSizes.{Numbers};
 ghost use Rattle.homeo_plan.specs.Limit.{form_limit};
 ghost use Rattle.homeo_plan.specs.Linear.{form};
 ghost use Rattle.homeo_plan.specs.PlanView.{plain_linear};
-ghost use Rattle.homeo_linear.specs.Standing.{forms_of};
+ghost use Rattle.homeo_form.specs.Standing.{forms_of};
 ghost use Rattle.homeo_cert.specs.Met.{numbers, met};
 ghost use Rattle.homeo_cert.specs.Kept.{atom, gap, form_of};
 ghost use Rattle.homeo_cert.specs.Followed.{too_large};
 ghost use Rattle.homeo_cert.specs.inner.Stops.{Finds};
 
 use crate::fault::{Fault, Stop};
-use homeo_linear::{Form, Standing, checked_form};
+use homeo_form::{Form, Standing, checked_form};
 use homeo_plan::Linear;
 use homeo_syntax::LExpr;
 use std::alloc::Global;

@@ -16,9 +16,9 @@ use Rattle.homeo_plan.specs.declared.forms.Term.{Term}
 use Rattle.homeo_plan.specs.Linear.{AreInOrder, Linear, Forms, delta_before, deltas_of, with_term, add_term, add_delta, add_deltas, scale_form, support}
 use Rattle.homeo_follow.specs.Follow.{object_delta, object_form, gain, print_needs, write_needs}
 use Rattle.homeo_follow.proofs.Deltas.{any_add}
-use Rattle.homeo_linear.proofs.DeltasInOrder.{has, or_move, or_none, has_adds, same_deltas, same_self, adds_append}
-use Rattle.homeo_linear.proofs.Orders.{in_order_adds}
-use Rattle.homeo_linear.specs.inner.Moved.{IsMoved}
+use Rattle.homeo_form.proofs.DeltasInOrder.{has, or_move, or_none, has_adds, same_deltas, same_self, adds_append}
+use Rattle.homeo_form.proofs.Orders.{in_order_adds}
+use Rattle.homeo_form.specs.Moved.{IsMoved}
 
 -- the objects that deltas stand for
 abbrev objects : List Delta → List ℕ

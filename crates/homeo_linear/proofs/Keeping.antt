@@ -29,7 +29,7 @@ use Rattle.homeo_follow.specs.Follow.{passes_by, holds_by, passed_test, failed_t
 use Rattle.homeo_follow.proofs.Walked.{holds_at_base, passed_is}
 use Rattle.homeo_plan.specs.Limit.{form_limit}
 use Rattle.homeo_linear.specs.inner.Kept.{AreApart, kept_comparison, kept_test, kept_cond}
-use Rattle.homeo_linear.proofs.FormSteps.{small_form}
+use Rattle.homeo_form.proofs.FormSteps.{small_form}
 use Rattle.homeo_linear.proofs.Comparing.{are_apart}
 
 -- what keeps a condition whose first tests pass, and have these atoms

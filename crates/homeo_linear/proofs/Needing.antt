@@ -29,8 +29,8 @@ use Rattle.homeo_plan.specs.Limit.{form_limit}
 use Rattle.homeo_linear.specs.declared.following.Following.{Following}
 use Rattle.homeo_linear.specs.inner.Following.{adds, needs_of, Followed}
 use Rattle.homeo_linear.specs.inner.Key.{definitions}
-use Rattle.homeo_linear.specs.Standing.{forms_of}
-use Rattle.homeo_linear.proofs.DeltasInOrder.{adds_append}
+use Rattle.homeo_form.specs.Standing.{forms_of}
+use Rattle.homeo_form.proofs.DeltasInOrder.{adds_append}
 
 -- ---- remote deltas
 module _ (i : ℕ) (out ds : List Delta) (n : ℕ) (x : Delta) (h : n < length ds) where

@@ -1,9 +1,4 @@
 pub mod Course
 pub mod Following
-pub mod Items
 pub mod Kept
 pub mod Key
-pub mod Moved
-pub mod Order
-pub mod Running
-pub mod Terms

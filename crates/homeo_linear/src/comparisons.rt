@@ -8,7 +8,7 @@ ghost use Rattle.homeo_plan.specs.Atoms.{difference};
 ghost use Rattle.homeo_plan.specs.PlanView.{plain_atom};
 ghost use Rattle.homeo_linear.specs.inner.Kept.{AreApart, kept_comparison};
 
-use crate::form::Form;
+use homeo_form::Form;
 use homeo_plan::Atom;
 use homeo_syntax::{Compare, Memory};
 use std::alloc::Global;

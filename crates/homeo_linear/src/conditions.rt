@@ -7,12 +7,11 @@ ghost use Rattle.homeo_plan.specs.FormSizes.{CanTest, CanCond};
 ghost use Rattle.homeo_plan.specs.PlanView.{plain_atom};
 ghost use Rattle.homeo_plan.specs.Limit.{form_limit};
 ghost use Rattle.homeo_follow.specs.Follow.{passes_by, holds_by};
-ghost use Rattle.homeo_linear.specs.Standing.{forms_of};
+ghost use Rattle.homeo_form.specs.Standing.{forms_of};
 ghost use Rattle.homeo_linear.specs.inner.Kept.{kept_test, kept_cond};
 
 use crate::comparisons::comparison;
-use crate::expressions::form;
-use crate::standing::Standing;
+use homeo_form::{Standing, expression_form};
 use homeo_plan::Atom;
 use homeo_syntax::{LCond, LTest, Memory};
 use std::alloc::Global;
@@ -38,8 +37,8 @@ fn test(
             Ok(!holds)
         }
         LTest::Compare { op, left, right } => {
-            let left = form(alloc, standing, left)?;
-            let right = form(alloc, standing, right)?;
+            let left = expression_form(alloc, standing, left)?;
+            let right = expression_form(alloc, standing, right)?;
             comparison(alloc, *op, left, right, atoms)
         }
     }

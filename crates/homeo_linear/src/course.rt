@@ -12,15 +12,12 @@ ghost use Rattle.homeo_plan.specs.Linear.{add_deltas, support};
 ghost use Rattle.homeo_plan.specs.PlanView.{plain_atoms};
 ghost use Rattle.homeo_follow.specs.Follow.{nothing, and_then, asked, holds_by, follow, follow_all, object_delta, object_forms, object_of, followed, gain, print_needs, write_needs, needed};
 ghost use Rattle.homeo_follow.specs.FollowSizes.{AreNumbers, CanBeFollowed, CanAllBeFollowed};
-ghost use Rattle.homeo_linear.specs.Standing.{forms_of};
+ghost use Rattle.homeo_form.specs.Standing.{forms_of};
 ghost use Rattle.homeo_linear.specs.inner.Course.{followed_so};
 ghost use Rattle.homeo_linear.specs.inner.Kept.{kept_cond};
 
 use crate::conditions::condition;
-use crate::deltas::in_order;
-use crate::expressions::form;
-use crate::form::Form;
-use crate::standing::Standing;
+use homeo_form::{Form, Standing, deltas_in_order, expression_form};
 use homeo_meaning::Database;
 use homeo_meaning::padded::item_or;
 use homeo_plan::{Atom, AtomSet, Delta, FreezeSet};
@@ -76,7 +73,7 @@ impl<'a> Course<'a> {
         ensures { OnOk result (followed_so self.new ≡
             and_then (followed_so self.old) (follow (Assign target (plain_lexpr value.now)) (forms_of self.old.standing))) }
     {
-        let form = form(alloc, &self.standing, value)?;
+        let form = expression_form(alloc, &self.standing, value)?;
         self.standing.set(place_of_temp(target), form)
     }
 
@@ -85,7 +82,7 @@ impl<'a> Course<'a> {
         ensures { OnOk result (followed_so self.new ≡
             and_then (followed_so self.old) (follow (Write target (plain_lexpr value.now)) (forms_of self.old.standing))) }
     {
-        let form = form(alloc, &self.standing, value)?;
+        let form = expression_form(alloc, &self.standing, value)?;
         self.standing.set(place_of(target), form)?;
         self.written.push(delta_of(target))?;
         Ok(())
@@ -96,7 +93,7 @@ impl<'a> Course<'a> {
         ensures { OnOk result (followed_so self.new ≡
             and_then (followed_so self.old) (follow (Print (plain_lexpr value.now)) (forms_of self.old.standing))) }
     {
-        let form = form(alloc, &self.standing, value)?;
+        let form = expression_form(alloc, &self.standing, value)?;
         self.prints.push(form)?;
         Ok(())
     }
@@ -205,12 +202,12 @@ fn needed(
         print_needs prints.items (write_needs (values_of base.now) (forms_of standing.now) (map (λ d. d.object) written.items))) }
 {
     let mut prints = prints;
-    let written = in_order(alloc, written)?;
+    let written = deltas_in_order(alloc, written)?;
     let mut needed = gained(alloc, base, standing, written.as_slice())?;
     while let Some(form) = prints.pop() {
         push_support(alloc, &mut needed, &form)?;
     }
-    in_order(alloc, needed)
+    deltas_in_order(alloc, needed)
 }
 
 /// What the gains of these objects depend on, in no order, and each delta as often as it is needed.

@@ -12,12 +12,9 @@ ghost use Rattle.homeo_plan.specs.Needs.{remote, written_needs, add_written, nee
 ghost use Rattle.homeo_plan.specs.Limit.{form_limit};
 ghost use Rattle.homeo_linear.specs.inner.Following.{needs_of, Followed};
 ghost use Rattle.homeo_split.specs.Places.{plain_place};
-ghost use Rattle.homeo_linear.specs.Standing.{forms_of};
+ghost use Rattle.homeo_form.specs.Standing.{forms_of};
 
-use crate::deltas::in_order;
-use crate::expressions::form;
-use crate::form::Form;
-use crate::standing::Standing;
+use homeo_form::{Form, Standing, deltas_in_order, expression_form};
 use homeo_plan::Delta;
 use homeo_split::{Place, place_of, place_of_temp};
 use homeo_syntax::{LCommand, LExpr, Memory, SplitName, Temp};
@@ -77,7 +74,7 @@ impl<'a> Following<'a> {
         requires { CanForm (IsSmall form_limit) (forms_of self.old.standing) (plain_lexpr value.now) }
         ensures { OnOk result (Followed self.old self.new (Assign target (plain_lexpr value.now))) }
     {
-        let form = form(alloc, &self.standing, value)?;
+        let form = expression_form(alloc, &self.standing, value)?;
         self.standing.set(place_of_temp(target), form)
     }
 
@@ -85,7 +82,7 @@ impl<'a> Following<'a> {
         requires { CanForm (IsSmall form_limit) (forms_of self.old.standing) (plain_lexpr value.now) }
         ensures { OnOk result (Followed self.old self.new (Write target (plain_lexpr value.now))) }
     {
-        let form = form(alloc, &self.standing, value)?;
+        let form = expression_form(alloc, &self.standing, value)?;
         self.standing.set(place_of(target), form)?;
         push_written(&mut self.written, target)
     }
@@ -94,7 +91,7 @@ impl<'a> Following<'a> {
         requires { CanForm (IsSmall form_limit) (forms_of self.old.standing) (plain_lexpr value.now) }
         ensures { OnOk result (Followed self.old self.new (Print (plain_lexpr value.now))) }
     {
-        let form = form(alloc, &self.standing, value)?;
+        let form = expression_form(alloc, &self.standing, value)?;
         self.prints.push(remote_of(alloc, self.site, &form)?)?;
         Ok(())
     }
@@ -104,12 +101,12 @@ impl<'a> Following<'a> {
         ensures { IfOk result (λ v. v.items ≡ needs_of self.entry NoCommand) }
     {
         let mut prints = self.prints;
-        let written = in_order(alloc, self.written)?;
+        let written = deltas_in_order(alloc, self.written)?;
         let mut needed = written_needs(alloc, self.site, &self.standing, written.as_slice())?;
         while let Some(deltas) = prints.pop() {
             needed.extend_from_slice(deltas.as_slice())?;
         }
-        in_order(alloc, needed)
+        deltas_in_order(alloc, needed)
     }
 }
 

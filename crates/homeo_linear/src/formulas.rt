@@ -15,7 +15,7 @@ ghost use Rattle.homeo_plan.specs.Limit.{form_limit};
 ghost use Rattle.homeo_plan.specs.Tracking.{IsBelowAtBase};
 
 use crate::conditions::condition;
-use crate::standing::Standing;
+use homeo_form::Standing;
 use homeo_meaning::Database;
 use homeo_plan::AtomSet;
 use homeo_syntax::{LCond, List, Memory};

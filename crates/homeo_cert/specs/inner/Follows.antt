@@ -4,7 +4,7 @@ use Rattle.homeo_syntax.specs.Low.{Command, Commands}
 use Rattle.homeo_meaning.specs.LowMeaning.{DeltaAt}
 use Rattle.homeo_plan.specs.declared.forms.Delta.{Delta}
 use Rattle.homeo_plan.specs.Linear.{Forms, add_deltas}
-use Rattle.homeo_linear.specs.Standing.{forms_of}
+use Rattle.homeo_form.specs.Standing.{forms_of}
 use Rattle.homeo_cert.specs.declared.fault.Fault.{Fault}
 use Rattle.homeo_cert.specs.Followed.{Rules, not_frozen, remote_deltas, forms_after, forms_after_all, written, all_written}
 use Rattle.homeo_cert.specs.declared.following.Following.{Following}

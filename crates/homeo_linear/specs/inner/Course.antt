@@ -2,7 +2,7 @@
 use Rattle.std.specs.Prelude.{map}
 use Rattle.homeo_plan.specs.PlanView.{plain_atom}
 use Rattle.homeo_follow.specs.Follow.{Followed}
-use Rattle.homeo_linear.specs.Standing.{forms_of}
+use Rattle.homeo_form.specs.Standing.{forms_of}
 use Rattle.homeo_linear.specs.declared.course.Course.{Course}
 
 abbrev pub followed_so : Course → Followed

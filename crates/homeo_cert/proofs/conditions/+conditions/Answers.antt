@@ -5,7 +5,7 @@ use Rattle.homeo_syntax.specs.LowView.{low_tests, plain_ltest, plain_lcond}
 use Rattle.homeo_syntax.proofs.LowViews.{low_True, low_Not}
 use Rattle.homeo_meaning.specs.Key.{definitions as meaning_definitions}
 use Rattle.homeo_meaning.specs.LowMeaning.{passes}
-use Rattle.homeo_linear.specs.Standing.{forms_of}
+use Rattle.homeo_form.specs.Standing.{forms_of}
 use Rattle.homeo_cert.specs.Key.{definitions}
 use Rattle.homeo_cert.specs.Met.{at_zero, met_in_test}
 use Rattle.homeo_cert.specs.Followed.{too_large}

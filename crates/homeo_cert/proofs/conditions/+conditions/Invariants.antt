@@ -1,7 +1,7 @@
 -- The tests so far pass, and the comparisons keep them.
 use Rattle.std.proofs.Common.{map, drop}
 use Rattle.homeo_syntax.specs.LowView.{low_tests, plain_ltest}
-use Rattle.homeo_linear.specs.Standing.{forms_of}
+use Rattle.homeo_form.specs.Standing.{forms_of}
 use Rattle.homeo_cert.proofs.TestSteps.{TestsSoFar}
 use Rattle.homeo_cert.proofs.conditions.+conditions.Given as goal
 

@@ -1,7 +1,7 @@
 -- The forms of both sides, one after the other.
 use Rattle.std.proofs.Common.{◌++◌, [], ◌∷◌, sym, ap, ◌∙◌, refl}
 use Rattle.homeo_syntax.specs.LowView.{plain_lexpr}
-use Rattle.homeo_linear.specs.Standing.{forms_of}
+use Rattle.homeo_form.specs.Standing.{forms_of}
 use Rattle.homeo_cert.specs.Key.{definitions}
 use Rattle.homeo_cert.specs.declared.conditions.Compared.{Compared}
 use Rattle.homeo_cert.specs.Met.{met}

@@ -4,8 +4,8 @@ use Rattle.homeo_syntax.specs.LowView.{plain_lexpr}
 use Rattle.homeo_meaning.specs.Small.{IsSmall}
 use Rattle.homeo_plan.specs.FormSizes.{Numbers}
 use Rattle.homeo_plan.specs.Limit.{form_limit}
-use Rattle.homeo_linear.specs.Checked.{Checked}
-use Rattle.homeo_linear.specs.Standing.{forms_of}
+use Rattle.homeo_form.specs.Checked.{Checked}
+use Rattle.homeo_form.specs.Standing.{forms_of}
 use Rattle.homeo_cert.proofs.LargeNumbers.{form_is_large}
 use Rattle.homeo_cert.proofs.MetSmall.{own}
 use Rattle.homeo_cert.proofs.SmallMet.{expr_not_large}

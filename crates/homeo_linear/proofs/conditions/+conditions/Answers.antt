@@ -4,7 +4,7 @@ use Rattle.std.proofs.lemmas.Result.{IfOk-weaker, on_ok_weaker}
 use Rattle.homeo_syntax.specs.LowView.{low_tests, plain_ltest}
 use Rattle.homeo_syntax.specs.declared.low.LTest.{the_lemmas}
 use Rattle.homeo_plan.specs.PlanView.{plain_atom}
-use Rattle.homeo_linear.specs.Standing.{forms_of}
+use Rattle.homeo_form.specs.Standing.{forms_of}
 use Rattle.homeo_linear.proofs.Keeping.{same_apart, not_can, sides_can, true_passes, true_kept, not_passes, not_kept, comparison_passes, comparison_kept, test_step, test_fails, test_passes, tests_hold, none_passed, one_more_passed, all_passed, others_within, failed_stays}
 use Rattle.homeo_linear.proofs.conditions.+conditions.Goals as goal
 

@@ -6,7 +6,7 @@ use Rattle.homeo_plan.specs.FormSizes.{CanCond}
 use Rattle.homeo_plan.specs.PlanView.{plain_atom}
 use Rattle.homeo_plan.specs.Limit.{form_limit}
 use Rattle.homeo_follow.specs.Follow.{holds_by}
-use Rattle.homeo_linear.specs.Standing.{forms_of}
+use Rattle.homeo_form.specs.Standing.{forms_of}
 use Rattle.homeo_linear.proofs.Keeping.{PassedSoFar}
 use Rattle.homeo_linear.proofs.conditions.+conditions.Given as goal
 

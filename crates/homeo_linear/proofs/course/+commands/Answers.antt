@@ -9,7 +9,7 @@ use Rattle.homeo_plan.specs.Limit.{form_limit}
 use Rattle.homeo_follow.specs.Key.{definitions}
 use Rattle.homeo_follow.specs.Follow.{and_then, Followed, follow, follow_all}
 use Rattle.homeo_follow.specs.FollowSizes.{CanAllBeFollowed}
-use Rattle.homeo_linear.specs.Standing.{forms_of}
+use Rattle.homeo_form.specs.Standing.{forms_of}
 use Rattle.homeo_linear.specs.inner.Course.{followed_so}
 use Rattle.homeo_linear.proofs.Coursing.{then_nothing, assign_can, write_can, print_can, seq_can, if_can, branch_can, branch_followed, asked_forms, yes_taken, no_taken, along_first, along_next, along_end}
 use Rattle.homeo_linear.proofs.course.+commands.Goals as goal

@@ -2,7 +2,7 @@
 use Rattle.std.proofs.Common.{map}
 use Rattle.homeo_syntax.specs.LowView.{low_commands, plain_lcommand}
 use Rattle.homeo_follow.specs.Follow.{and_then, follow_all}
-use Rattle.homeo_linear.specs.Standing.{forms_of}
+use Rattle.homeo_form.specs.Standing.{forms_of}
 use Rattle.homeo_linear.specs.inner.Course.{followed_so}
 use Rattle.homeo_linear.proofs.Coursing.{Along}
 use Rattle.homeo_linear.proofs.course.+commands.Given as goal

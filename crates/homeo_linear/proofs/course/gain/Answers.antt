@@ -10,7 +10,7 @@ use Rattle.homeo_meaning.specs.Small.{IsSmall}
 use Rattle.homeo_plan.specs.FormSizes.{Numbers}
 use Rattle.homeo_plan.specs.Limit.{form_limit}
 use Rattle.homeo_plan.specs.Linear.{add_forms, scale_form}
-use Rattle.homeo_linear.proofs.FormSteps.{one_is_small}
+use Rattle.homeo_form.proofs.FormSteps.{one_is_small}
 use Rattle.homeo_linear.proofs.Gaining.{object_small, lost_small}
 use Rattle.homeo_linear.proofs.course.gain.Goals as goal
 

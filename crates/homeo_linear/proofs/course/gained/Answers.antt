@@ -3,7 +3,7 @@ use Rattle.std.proofs.Common.{arith}
 use Rattle.homeo_follow.specs.Key.{definitions}
 use Rattle.homeo_meaning.specs.Serial.{values_of}
 use Rattle.homeo_meaning.specs.LowMeaning.{BaseAt}
-use Rattle.homeo_linear.specs.Standing.{forms_of}
+use Rattle.homeo_form.specs.Standing.{forms_of}
 use Rattle.homeo_linear.proofs.Gaining.{gains_end, gains_place}
 use Rattle.homeo_linear.proofs.course.gained.Goals as goal
 

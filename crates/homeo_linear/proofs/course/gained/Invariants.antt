@@ -3,7 +3,7 @@ use Rattle.std.proofs.Common.{◌≡◌, ◌≤◌, [], map, drop, length}
 use Rattle.homeo_meaning.specs.Serial.{values_of}
 use Rattle.homeo_plan.specs.Linear.{add_deltas}
 use Rattle.homeo_follow.specs.Follow.{write_needs}
-use Rattle.homeo_linear.specs.Standing.{forms_of}
+use Rattle.homeo_form.specs.Standing.{forms_of}
 use Rattle.homeo_linear.proofs.course.gained.Given as goal
 
 abbrev pub invariant-loop-place : goal.invariant-loop-place

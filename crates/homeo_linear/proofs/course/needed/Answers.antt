@@ -5,7 +5,7 @@ use Rattle.std.proofs.lemmas.Result.{IfOk-weaker}
 use Rattle.homeo_meaning.specs.Serial.{values_of}
 use Rattle.homeo_plan.specs.Linear.{add_deltas}
 use Rattle.homeo_follow.specs.Follow.{print_needs, write_needs}
-use Rattle.homeo_linear.specs.Standing.{forms_of}
+use Rattle.homeo_form.specs.Standing.{forms_of}
 use Rattle.homeo_linear.proofs.Gaining.{gains_once, prints_popped, prints_end}
 use Rattle.homeo_linear.proofs.course.needed.Goals as goal
 

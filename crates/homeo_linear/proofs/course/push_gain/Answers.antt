@@ -4,7 +4,7 @@ use Rattle.std.proofs.lemmas.Result.{on_ok_weaker}
 use Rattle.homeo_meaning.specs.Serial.{values_of}
 use Rattle.homeo_meaning.specs.LowMeaning.{BaseAt}
 use Rattle.homeo_plan.specs.Linear.{support}
-use Rattle.homeo_linear.specs.Standing.{forms_of}
+use Rattle.homeo_form.specs.Standing.{forms_of}
 use Rattle.homeo_linear.proofs.Gaining.{moved_pushed}
 use Rattle.homeo_linear.proofs.course.push_gain.Goals as goal
 

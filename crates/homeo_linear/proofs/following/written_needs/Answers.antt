@@ -1,6 +1,6 @@
 -- What one more delta needs.
 use Rattle.std.proofs.Common.{arith}
-use Rattle.homeo_linear.specs.Standing.{forms_of}
+use Rattle.homeo_form.specs.Standing.{forms_of}
 use Rattle.homeo_linear.proofs.Needing.{needed_end, needed_place}
 use Rattle.homeo_linear.proofs.following.written_needs.Goals as goal
 

@@ -2,7 +2,7 @@
 use Rattle.std.proofs.Common.{◌≡◌, ◌≤◌, [], drop, length}
 use Rattle.homeo_plan.specs.Linear.{add_deltas}
 use Rattle.homeo_plan.specs.Needs.{written_needs}
-use Rattle.homeo_linear.specs.Standing.{forms_of}
+use Rattle.homeo_form.specs.Standing.{forms_of}
 use Rattle.homeo_linear.proofs.following.written_needs.Given as goal
 
 abbrev pub invariant-loop-place : goal.invariant-loop-place

@@ -11,7 +11,7 @@ use Rattle.homeo_plan.specs.PlanView.{plain_atom}
 use Rattle.homeo_plan.specs.Tracking.{IsBelowAtBase}
 use Rattle.homeo_plan.proofs.AtomSizes.{true_of_cond}
 use Rattle.homeo_plan.proofs.Atoms.{true_cond_below}
-use Rattle.homeo_linear.specs.Standing.{forms_of}
+use Rattle.homeo_form.specs.Standing.{forms_of}
 use Rattle.homeo_linear.proofs.Keeping.{alone, atoms_at_base, atoms_mean}
 use Rattle.homeo_linear.proofs.formulas.atoms.Goals as goal
 

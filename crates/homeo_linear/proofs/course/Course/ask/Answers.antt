@@ -2,7 +2,7 @@
 use Rattle.std.proofs.Common.{refl}
 use Rattle.std.proofs.lemmas.Result.{on_ok_weaker}
 use Rattle.homeo_syntax.specs.LowView.{plain_lcond}
-use Rattle.homeo_linear.specs.Standing.{forms_of}
+use Rattle.homeo_form.specs.Standing.{forms_of}
 use Rattle.homeo_linear.specs.inner.Course.{followed_so}
 use Rattle.homeo_linear.specs.inner.Kept.{kept_cond}
 use Rattle.homeo_linear.proofs.Coursing.{asked_is}

@@ -4,7 +4,7 @@ use Rattle.std.proofs.lemmas.Result.{on_ok_weaker}
 use Rattle.homeo_syntax.specs.LowView.{plain_lcommand}
 use Rattle.homeo_syntax.proofs.LowViews.{low_Assign, low_Write, low_Print}
 use Rattle.homeo_linear.specs.inner.Following.{Followed}
-use Rattle.homeo_linear.specs.Standing.{forms_of}
+use Rattle.homeo_form.specs.Standing.{forms_of}
 use Rattle.homeo_linear.proofs.Needing.{assign_can, write_can, print_can, no_skip, no_seq, no_if}
 use Rattle.homeo_linear.proofs.following.Following.follow.Goals as goal
 

@@ -6,7 +6,7 @@ use Rattle.homeo_plan.specs.FormSizes.{CanFollow}
 use Rattle.homeo_plan.specs.Needs.{IsStraight}
 use Rattle.homeo_plan.specs.Limit.{form_limit}
 use Rattle.homeo_linear.specs.inner.Following.{needs_of}
-use Rattle.homeo_linear.specs.Standing.{forms_of}
+use Rattle.homeo_form.specs.Standing.{forms_of}
 use Rattle.homeo_linear.proofs.following.Following.follow_all.Given as goal
 
 abbrev pub invariant-loop-command : goal.invariant-loop-command

@@ -1,0 +1,72 @@
+-- Forms of the items of sums.
+use Rattle.std.proofs.Common.{◌≡◌, Box, Global, ℤ, negsuc, ◌*ℤ◌, refl, sym, ap, ◌∙◌, subst}
+use Rattle.homeo_syntax.specs.Low as l
+use Rattle.homeo_syntax.specs.LowView.{plain_lexpr}
+use Rattle.homeo_syntax.specs.declared.low.Temp as temps
+use Rattle.homeo_syntax.specs.declared.low.SplitName.{SplitName}
+use Rattle.homeo_syntax.specs.declared.low.LExpr.{LExpr, Literal, Temp, Read, Neg}
+use Rattle.homeo_syntax.proofs.LowViews.{low_Neg}
+use Rattle.homeo_meaning.specs.LowMeaning.{TempAt, location_of}
+use Rattle.homeo_meaning.specs.Small.{IsSmall}
+use Rattle.homeo_plan.specs.Key.{definitions as plan_definitions}
+use Rattle.homeo_plan.specs.FormSizes.{Numbers, CanForm}
+use Rattle.homeo_plan.specs.Linear.{Forms, constant_form, scale_form, form}
+use Rattle.homeo_plan.specs.Limit.{form_limit}
+use Rattle.homeo_form.specs.declared.items.Item.{Item}
+use Rattle.homeo_form.specs.declared.items.Item.TheVariants as items
+use Rattle.homeo_split.specs.declared.places.Place.{Place}
+use Rattle.homeo_form.specs.inner.Items.{HasFormAt, IsItem}
+use Rattle.homeo_split.specs.Places.{plain_place}
+use Rattle.homeo_form.proofs.FormSteps.{small_form, literal_form, temp_form, read_form}
+
+-- ---- what stands at a place
+stands_made : (e : l.Expr) (p : Place) → ((f : Forms) → form f e ≡ f (plain_place p)) → HasFormAt (λ a. a) e p
+stands_made e p h = record {
+  made = h;
+  small = λ f c. subst (Numbers (IsSmall form_limit)) (h f) (small_form (IsSmall form_limit) f e c);
+}
+
+pub temp_made : (e : LExpr) (t : temps.Temp) (p : Place) → e ≡ Temp t → plain_place p ≡ TempAt t → HasFormAt (λ a. a) (plain_lexpr e) p
+temp_made e t p q r = stands_made (plain_lexpr e) p (λ f. sym (temp_form f e t (plain_place p) (f (plain_place p)) q r refl))
+
+pub read_made : (e : LExpr) (x : SplitName) (p : Place) → e ≡ Read x → plain_place p ≡ location_of x → HasFormAt (λ a. a) (plain_lexpr e) p
+read_made e x p q r = stands_made (plain_lexpr e) p (λ f. sym (read_form f e x (plain_place p) (f (plain_place p)) q r refl))
+
+-- ---- a number
+pub number_made : (e : LExpr) (n m : ℤ) → e ≡ Literal n → m ≡ n → (f : Forms) → form f (plain_lexpr e) ≡ constant_form m
+number_made e n m p q f = sym (literal_form f e n (constant_form m) p (ap constant_form q))
+
+pub negative_made : (e : LExpr) (n m : ℤ) → e ≡ Literal n → m ≡ negsuc 0 *ℤ n → (f : Forms) → form f (l.Neg (plain_lexpr e)) ≡ constant_form m
+unfolding plan_definitions
+negative_made e n m p q f = ap (scale_form (negsuc 0)) (number_made e n n p refl f) ∙ sym (ap constant_form q)
+
+-- ---- that with its sign turned
+pub negated_made : (e : l.Expr) (p : Place) → HasFormAt (λ a. a) e p → HasFormAt (scale_form (negsuc 0)) (l.Neg e) p
+unfolding plan_definitions
+negated_made e p m = record {
+  made = λ f. ap (scale_form (negsuc 0)) (m.made f);
+  small = λ f c. m.small f c.0;
+}
+
+pub neg_item : (i : Item) (e : LExpr) (b : Box LExpr Global) (x : LExpr) → e ≡ Neg b → x ≡ b.value → IsItem i (l.Neg (plain_lexpr x)) → IsItem i (plain_lexpr e)
+neg_item i e b x p q h = subst (IsItem i) (ap (λ y. l.Neg (plain_lexpr y)) q ∙ sym (ap plain_lexpr p ∙ low_Neg b)) h
+
+-- ---- an item that is known
+module _ (i : Item) (p : Place) (e : l.Expr) where
+  pub item_read : i ≡ items.Read p → IsItem i e → HasFormAt (λ a. a) e p
+  item_read q h = subst (λ j. IsItem j e) q h
+
+  pub item_negated : i ≡ items.Negated p → IsItem i e → HasFormAt (scale_form (negsuc 0)) e p
+  item_negated q h = subst (λ j. IsItem j e) q h
+
+pub item_number : (i : Item) (n : ℤ) (e : l.Expr) → i ≡ items.Number n → IsItem i e → (f : Forms) → form f e ≡ constant_form n
+item_number i n e q h = subst (λ j. IsItem j e) q h
+
+pub number_small : (f : Forms) (e : l.Expr) (n : ℤ) → form f e ≡ constant_form n → CanForm (IsSmall form_limit) f e → IsSmall form_limit n
+unfolding plan_definitions
+number_small f e n m c = (subst (Numbers (IsSmall form_limit)) m (small_form (IsSmall form_limit) f e c)).constant
+
+pub negated_small :
+    (f : Forms) {e : l.Expr} {p : Place} → HasFormAt (scale_form (negsuc 0)) e p → CanForm (IsSmall form_limit) f e →
+    Numbers (IsSmall form_limit) (scale_form (negsuc 0) (f (plain_place p)))
+negated_small f {e} m c = subst (Numbers (IsSmall form_limit)) (m.made f) (small_form (IsSmall form_limit) f e c)

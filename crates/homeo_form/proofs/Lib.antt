@@ -1,0 +1,12 @@
+mod Adding
+mod CheckedSteps
+pub mod DeltasInOrder
+mod FactorsFound
+mod FormParts
+pub mod FormSteps
+mod ItemForms
+pub mod Orders
+mod RunningSums
+mod Stands
+mod TermsAddedUp
+mod Widths

@@ -1,0 +1,4 @@
+pub mod Checked
+pub mod Moved
+pub mod Standing
+pub mod inner

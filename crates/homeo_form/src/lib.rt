@@ -1,0 +1,17 @@
+//! Linear forms, their sums and products, and the forms of expressions at what stands at each place.
+#![tactic(auto)]
+
+mod checked;
+mod deltas;
+mod expressions;
+mod form;
+mod items;
+mod numbers;
+mod standing;
+mod terms;
+
+pub use checked::checked_form;
+pub use deltas::in_order as deltas_in_order;
+pub use expressions::form as expression_form;
+pub use form::Form;
+pub use standing::Standing;

@@ -1,0 +1,274 @@
+//! The forms of what stands at each place.
+
+ghost use Rattle.std.specs.Prelude.{◌≡◌, negsuc, IsTrue, IfOk, OnOk};
+ghost use Rattle.homeo_meaning.specs.LowMeaning.{BaseAt, put};
+ghost use Rattle.homeo_meaning.specs.Serial.{values_of};
+ghost use Rattle.homeo_meaning.specs.Small.{IsSmall};
+ghost use Rattle.homeo_plan.specs.FormSizes.{Numbers};
+ghost use Rattle.homeo_plan.specs.Limit.{form_limit};
+ghost use Rattle.homeo_plan.specs.Linear.{base_forms, add_forms, scale_form};
+ghost use Rattle.homeo_split.specs.Places.{plain_place};
+ghost use Rattle.homeo_follow.specs.Follow.{object_forms};
+ghost use Rattle.homeo_form.specs.Standing.{first_forms, forms_of};
+ghost use Rattle.homeo_form.specs.Moved.{IsMoved};
+
+use crate::form::{Form, Total};
+use crate::numbers::multiplied;
+use homeo_meaning::padded::item_or;
+use homeo_plan::{Delta, Term};
+use homeo_split::Place;
+use homeo_syntax::Memory;
+use std::alloc::Global;
+use std::collections::HashMap;
+
+/// The forms at places that were set. At the others there is what a round begins with: temporaries are 0, bases are the
+/// numbers of the base, and each delta is itself; or, where objects are whole, each is its base with its delta at the one site.
+#[derive(Drop)]
+pub struct Standing<'a> {
+    base: &'a [i64],
+    are_whole: bool,
+    set: HashMap<Place, Form>,
+}
+
+impl<'a> Standing<'a> {
+    /// What stands as a round begins: nothing is set.
+    pub fn new(alloc: Global, base: &'a [i64]) -> Standing<'a>
+        ensures { forms_of result ≡ base_forms (values_of base.now) }
+    {
+        Standing {
+            base,
+            are_whole: false,
+            set: HashMap::new(alloc),
+        }
+    }
+
+    /// What stands as a round begins, where objects are whole.
+    pub fn of_objects(alloc: Global, base: &'a [i64]) -> Standing<'a>
+        ensures { forms_of result ≡ object_forms (values_of base.now) }
+    {
+        Standing {
+            base,
+            are_whole: true,
+            set: HashMap::new(alloc),
+        }
+    }
+
+    /// Sets the form at a place.
+    ///
+    /// # Errors
+    ///
+    /// `Memory` when out of memory.
+    pub fn set(&mut self, place: Place, form: Form) -> Result<(), Memory>
+        ensures { OnOk result (forms_of self.new ≡ put (forms_of self.old) (plain_place place) form) }
+    {
+        self.set.insert(place, form)?;
+        Ok(())
+    }
+
+    /// A copy of the form at a place.
+    ///
+    /// # Errors
+    ///
+    /// `Memory` when out of memory.
+    pub fn form_at(&self, alloc: Global, place: Place) -> Result<Form, Memory>
+        ensures { IfOk result (λ f. f ≡ forms_of self.now (plain_place place)) }
+    {
+        match self.set.get(&place) {
+            Some(form) => form.copy(alloc),
+            None => self.first_form(alloc, place),
+        }
+    }
+
+    /// Whether the form that was set for an object is that of the object with some base.
+    pub fn is_moved(&self, object: u32) -> bool
+        ensures { IsTrue result → IsMoved object (forms_of self.now (BaseAt object)) }
+    {
+        match self.set.get(&Place::Base(object)) {
+            Some(form) => form.is_moved(object),
+            None => false,
+        }
+    }
+
+    /// The form at a place put into a sum.
+    pub(crate) fn add_at(&self, alloc: Global, place: Place, total: Total) -> Result<Total, Memory>
+        requires small { Numbers (IsSmall form_limit) total }
+        requires place_small { Numbers (IsSmall form_limit) (forms_of self.now (plain_place place)) }
+        ensures { IfOk result (λ f. f ≡ add_forms (forms_of self.now (plain_place place)) total) }
+    {
+        match self.set.get(&place) {
+            Some(form) => total.plus(alloc, form),
+            None => self.add_first(place, total),
+        }
+    }
+
+    /// The negative of the form at a place put into a sum.
+    pub(crate) fn subtract_at(
+        &self,
+        alloc: Global,
+        place: Place,
+        total: Total,
+    ) -> Result<Total, Memory>
+        requires small { Numbers (IsSmall form_limit) total }
+        requires place_small { Numbers (IsSmall form_limit) (forms_of self.now (plain_place place)) }
+        requires negated_small { Numbers (IsSmall form_limit) (scale_form (negsuc 0) (forms_of self.now (plain_place place))) }
+        ensures { IfOk result (λ f. f ≡ add_forms (scale_form (negsuc 0) (forms_of self.now (plain_place place))) total) }
+    {
+        match self.set.get(&place) {
+            Some(form) => {
+                let negated = form.times(alloc, -1)?;
+                total.plus(alloc, &negated)
+            }
+            None => self.subtract_first(place, total),
+        }
+    }
+
+    /// The form at a place where nothing is set.
+    fn first_form(&self, alloc: Global, place: Place) -> Result<Form, Memory>
+        ensures { IfOk result (λ f. f ≡ first_forms self.now.are_whole (values_of self.now.base.now) (plain_place place)) }
+    {
+        if self.are_whole {
+            object_form(alloc, self.base, place)
+        } else {
+            base_form(alloc, self.base, place)
+        }
+    }
+
+    /// That form put into a sum.
+    fn add_first(&self, place: Place, total: Total) -> Result<Total, Memory>
+        requires small { Numbers (IsSmall form_limit) total }
+        requires place_small { Numbers (IsSmall form_limit) (first_forms self.now.are_whole (values_of self.now.base.now) (plain_place place)) }
+        ensures { IfOk result (λ f. f ≡ add_forms (first_forms self.now.are_whole (values_of self.now.base.now) (plain_place place)) total) }
+    {
+        if self.are_whole {
+            add_object(self.base, place, total)
+        } else {
+            add_base(self.base, place, total)
+        }
+    }
+
+    /// Its negative put into a sum.
+    fn subtract_first(&self, place: Place, total: Total) -> Result<Total, Memory>
+        requires small { Numbers (IsSmall form_limit) total }
+        requires place_small { Numbers (IsSmall form_limit) (first_forms self.now.are_whole (values_of self.now.base.now) (plain_place place)) }
+        requires negated_small { Numbers (IsSmall form_limit) (scale_form (negsuc 0) (first_forms self.now.are_whole (values_of self.now.base.now) (plain_place place))) }
+        ensures { IfOk result (λ f. f ≡ add_forms (scale_form (negsuc 0) (first_forms self.now.are_whole (values_of self.now.base.now) (plain_place place))) total) }
+    {
+        if self.are_whole {
+            subtract_object(self.base, place, total)
+        } else {
+            subtract_base(self.base, place, total)
+        }
+    }
+}
+
+/// The form at a place as a round begins, where objects are whole.
+#[tactic(auto, unfolding(homeo_plan::specs::Key::definitions, homeo_follow::specs::Key::definitions))]
+fn object_form(alloc: Global, base: &[i64], place: Place) -> Result<Form, Memory>
+    ensures { IfOk result (λ f. f ≡ object_forms (values_of base.now) (plain_place place)) }
+{
+    match place {
+        Place::Named(_) | Place::Fresh(_) | Place::Delta { .. } => Ok(Form::number(alloc, 0)),
+        Place::Base(object) => {
+            let value = item_or(base, object as usize, 0);
+            Form::object(alloc, value, object)
+        }
+    }
+}
+
+/// That form put into a sum.
+#[tactic(auto, unfolding(homeo_plan::specs::Key::definitions, homeo_follow::specs::Key::definitions))]
+fn add_object(base: &[i64], place: Place, total: Total) -> Result<Total, Memory>
+    requires small { Numbers (IsSmall form_limit) total }
+    requires place_small { Numbers (IsSmall form_limit) (object_forms (values_of base.now) (plain_place place)) }
+    ensures { IfOk result (λ f. f ≡ add_forms (object_forms (values_of base.now) (plain_place place)) total) }
+{
+    match place {
+        Place::Named(_) | Place::Fresh(_) | Place::Delta { .. } => Ok(total),
+        Place::Base(object) => {
+            let value = item_or(base, object as usize, 0);
+            total.plus_number(value as i128).plus_term(Term {
+                delta: Delta { object, site: 0 },
+                factor: 1,
+            })
+        }
+    }
+}
+
+/// Its negative put into a sum.
+#[tactic(auto, unfolding(homeo_plan::specs::Key::definitions, homeo_follow::specs::Key::definitions))]
+fn subtract_object(base: &[i64], place: Place, total: Total) -> Result<Total, Memory>
+    requires small { Numbers (IsSmall form_limit) total }
+    requires place_small { Numbers (IsSmall form_limit) (object_forms (values_of base.now) (plain_place place)) }
+    requires negated_small { Numbers (IsSmall form_limit) (scale_form (negsuc 0) (object_forms (values_of base.now) (plain_place place))) }
+    ensures { IfOk result (λ f. f ≡ add_forms (scale_form (negsuc 0) (object_forms (values_of base.now) (plain_place place))) total) }
+{
+    match place {
+        Place::Named(_) | Place::Fresh(_) | Place::Delta { .. } => Ok(total),
+        Place::Base(object) => {
+            let value = item_or(base, object as usize, 0);
+            total
+                .plus_number(multiplied(-1, value as i128))
+                .plus_term(Term {
+                    delta: Delta { object, site: 0 },
+                    factor: -1,
+                })
+        }
+    }
+}
+
+/// The form at a place as a round begins.
+#[tactic(auto, unfolding(homeo_plan::specs::Key::definitions))]
+fn base_form(alloc: Global, base: &[i64], place: Place) -> Result<Form, Memory>
+    ensures { IfOk result (λ f. f ≡ base_forms (values_of base.now) (plain_place place)) }
+{
+    match place {
+        Place::Named(_) => Ok(Form::number(alloc, 0)),
+        Place::Fresh(_) => Ok(Form::number(alloc, 0)),
+        Place::Base(object) => {
+            let value = item_or(base, object as usize, 0);
+            Ok(Form::value(alloc, value))
+        }
+        Place::Delta { object, site } => Form::delta(alloc, Delta { object, site }),
+    }
+}
+
+/// The form at a place as a round begins, put into a sum.
+#[tactic(auto, unfolding(homeo_plan::specs::Key::definitions))]
+fn add_base(base: &[i64], place: Place, total: Total) -> Result<Total, Memory>
+    requires small { Numbers (IsSmall form_limit) total }
+    requires place_small { Numbers (IsSmall form_limit) (base_forms (values_of base.now) (plain_place place)) }
+    ensures { IfOk result (λ f. f ≡ add_forms (base_forms (values_of base.now) (plain_place place)) total) }
+{
+    match place {
+        Place::Named(_) | Place::Fresh(_) => Ok(total),
+        Place::Base(object) => {
+            let value = item_or(base, object as usize, 0);
+            Ok(total.plus_number(value as i128))
+        }
+        Place::Delta { object, site } => total.plus_term(Term {
+            delta: Delta { object, site },
+            factor: 1,
+        }),
+    }
+}
+
+/// The negative of the form at a place as a round begins, put into a sum.
+#[tactic(auto, unfolding(homeo_plan::specs::Key::definitions))]
+fn subtract_base(base: &[i64], place: Place, total: Total) -> Result<Total, Memory>
+    requires small { Numbers (IsSmall form_limit) total }
+    requires place_small { Numbers (IsSmall form_limit) (base_forms (values_of base.now) (plain_place place)) }
+    requires negated_small { Numbers (IsSmall form_limit) (scale_form (negsuc 0) (base_forms (values_of base.now) (plain_place place))) }
+    ensures { IfOk result (λ f. f ≡ add_forms (scale_form (negsuc 0) (base_forms (values_of base.now) (plain_place place))) total) }
+{
+    match place {
+        Place::Named(_) | Place::Fresh(_) => Ok(total),
+        Place::Base(object) => {
+            let value = item_or(base, object as usize, 0);
+            Ok(total.plus_number(multiplied(-1, value as i128)))
+        }
+        Place::Delta { object, site } => total.plus_term(Term {
+            delta: Delta { object, site },
+            factor: -1,
+        }),
+    }
+}

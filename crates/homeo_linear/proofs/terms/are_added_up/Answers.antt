@@ -1,7 +1,0 @@
--- None is left.
-use Rattle.std.proofs.Common.{arith}
-use Rattle.homeo_linear.proofs.Adding.{none_left_added_up}
-use Rattle.homeo_linear.proofs.terms.are_added_up.Goals as goal
-
-pub loop-place-init : goal.loop-place-init
-loop-place-init c = record { within = omega arith; added_up = none_left_added_up c.args.terms.now }
