@@ -20,7 +20,7 @@ use Rattle.homeo_words.specs.Command.{Say}
 use Rattle.homeo_words.specs.declared.command.Command.{Command}
 use Rattle.homeo_words.specs.declared.command.Command.TheVariants as c
 use Rattle.homeo_words.proofs.OneCommand.{one_command}
-use Rattle.homeo_cert.proofs.OneVerdict.{one_verdict}
+use Rattle.homeo_certificate.proofs.OneVerdict.{one_verdict}
 use Rattle.homeo_commands.specs.Certified.{unended, verdict_text, IsCertificateLine, IsVerdictLine}
 use Rattle.homeo.specs.Laws.{OneOutput}
 use Rattle.homeo_commands.specs.Made.{IsMade, IsScheduledReport, OfStream, OfText}

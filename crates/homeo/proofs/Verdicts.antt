@@ -10,11 +10,11 @@ use Rattle.homeo_meaning.proofs.Sound.{sound}
 use Rattle.homeo_plan.specs.Planned.{policy}
 use Rattle.homeo_plan.proofs.Policy.{policy_fits}
 use Rattle.homeo_reader.proofs.SpelledNames.{well_formed}
-use Rattle.homeo_cert.specs.Verdict.{IsVerdictOn}
-use Rattle.homeo_cert.specs.declared.verdict.Verdict.{Verdict}
-use Rattle.homeo_cert.specs.declared.verdict.Verdict.TheVariants as v
-use Rattle.homeo_cert.proofs.CertifiedTexts.{certified_texts_are_valid}
-use Rattle.homeo_cert.proofs.Soundness.{valid_text_is_sound}
+use Rattle.homeo_certificate.specs.Verdict.{IsVerdictOn}
+use Rattle.homeo_certificate.specs.declared.verdict.Verdict.{Verdict}
+use Rattle.homeo_certificate.specs.declared.verdict.Verdict.TheVariants as v
+use Rattle.homeo_certified.proofs.CertifiedTexts.{certified_texts_are_valid}
+use Rattle.homeo_certificate.proofs.Soundness.{valid_text_is_sound}
 use Rattle.homeo_commands.specs.Certified.{first_certificate, unended, verdict_text}
 use Rattle.homeo_commands.proofs.Decided.{told_is_given}
 use Rattle.homeo_commands.proofs.Unended.{unended_line}

@@ -1,6 +1,6 @@
 -- The laws of outputs.
 use Rattle.std.specs.Prelude.{◌≡◌, ℕ, List, [], Some, codes}
-use Rattle.homeo_cert.specs.Laws.{IsSoundText}
+use Rattle.homeo_certificate.specs.Laws.{IsSoundText}
 use Rattle.homeo_words.specs.Command.{Say}
 use Rattle.homeo_words.specs.declared.command.Command.TheVariants.{Run, Certify, Verify}
 use Rattle.homeo_commands.specs.Certified.{unended}

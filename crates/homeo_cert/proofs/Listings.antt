@@ -14,9 +14,9 @@ use Rattle.homeo_syntax.specs.declared.low.LCommand.{LCommand, Skip, Assign, Wri
 use Rattle.homeo_syntax.specs.LowView.{low_exprs, low_tests, low_commands, plain_lexpr, plain_ltest, plain_lcond, plain_lcommand}
 use Rattle.homeo_syntax.proofs.LowViews.{low_Literal, low_Temp, low_Read, low_Sum, low_Product, low_Neg, low_True, low_Not, low_Compare, low_conjunction, low_Skip, low_Assign, low_Write, low_Print, low_Seq, low_If}
 use Rattle.homeo_meaning.proofs.Steps.{drop_next, drop_none}
-use Rattle.homeo_cert.specs.Key.{definitions}
-use Rattle.homeo_cert.specs.declared.nodes.Node.TheVariants as node
-use Rattle.homeo_cert.specs.Nodes.{name_node, write_node, expr_count, test_count, command_count, expr_nodes, exprs_nodes, test_nodes, cond_nodes, command_nodes, commands_nodes}
+use Rattle.homeo_certificate.specs.Key.{definitions}
+use Rattle.homeo_certificate.specs.declared.nodes.Node.TheVariants as node
+use Rattle.homeo_certificate.specs.Nodes.{name_node, write_node, expr_count, test_count, command_count, expr_nodes, exprs_nodes, test_nodes, cond_nodes, command_nodes, commands_nodes}
 
 -- ---- how many
 pub exprs_counted : (es : List l.Expr) → expr_count (low_exprs es) ≡ length es

@@ -6,7 +6,7 @@ use Rattle.serde_json.specs.Data.{Data}
 use Rattle.serde_json.specs.Events.{items_len, SendsValue, SendsItems}
 use Rattle.serde_json.specs.View.{items_of}
 use Rattle.homeo_meaning.proofs.Steps.{drop_next, drop_none}
-use Rattle.homeo_cert.specs.Json.{list_data}
+use Rattle.homeo_certificate.specs.Json.{list_data}
 
 -- of all, those before the rest are sent: whatever ends the list well from here ends it well from the start
 abbrev pub SendsUpTo : {A : Type 0} → (A → Data) → List A → List A → Log → Log → Type 0

@@ -9,13 +9,13 @@ use Rattle.homeo_syntax.specs.declared.low.Temp.TheVariants.{Named, Fresh}
 use Rattle.homeo_plan.specs.declared.forms.Delta.{Delta}
 use Rattle.homeo_plan.specs.declared.forms.Term.{Term}
 use Rattle.homeo_plan.specs.Template.{Clause}
-use Rattle.homeo_cert.specs.Key.{definitions}
-use Rattle.homeo_cert.specs.declared.nodes.Node.{Node}
-use Rattle.homeo_cert.specs.declared.nodes.Node.TheVariants as node
-use Rattle.homeo_cert.specs.Certificate.{Call, Certificate}
-use Rattle.homeo_cert.specs.Json.{whole_data, wholes_data, list_data, named, temp_data, compare_data, node_data}
-use Rattle.homeo_cert.specs.Nodes.{command_nodes}
-use Rattle.homeo_cert.specs.Text.{delta_data, term_data, clause_data, call_data, certificate_data}
+use Rattle.homeo_certificate.specs.Key.{definitions}
+use Rattle.homeo_certificate.specs.declared.nodes.Node.{Node}
+use Rattle.homeo_certificate.specs.declared.nodes.Node.TheVariants as node
+use Rattle.homeo_certificate.specs.Certificate.{Call, Certificate}
+use Rattle.homeo_certificate.specs.Json.{whole_data, wholes_data, list_data, named, temp_data, compare_data, node_data}
+use Rattle.homeo_certificate.specs.Nodes.{command_nodes}
+use Rattle.homeo_certificate.specs.Text.{delta_data, term_data, clause_data, call_data, certificate_data}
 
 abbrev HasNone : Data → Type 0
 HasNone d = has_float d ≡ false

@@ -9,10 +9,10 @@ use Rattle.homeo_plan.specs.Planned.{sites_of, planned, template_at}
 use Rattle.homeo_plan.specs.Template.{Template}
 use Rattle.homeo_build.specs.Plan.{IsPlanOf}
 use Rattle.homeo_build.proofs.Grown.{map_map}
-use Rattle.homeo_cert.specs.Certificate.{Certificate}
-use Rattle.homeo_cert.specs.Certified.{certified_call, certificate_of}
-use Rattle.homeo_cert.specs.Json.{list_data, whole_data, wholes_data}
-use Rattle.homeo_cert.specs.Text.{call_data, clause_data, delta_data, certificate_data}
+use Rattle.homeo_certificate.specs.Certificate.{Certificate}
+use Rattle.homeo_certificate.specs.Certified.{certified_call, certificate_of}
+use Rattle.homeo_certificate.specs.Json.{list_data, whole_data, wholes_data}
+use Rattle.homeo_certificate.specs.Text.{call_data, clause_data, delta_data, certificate_data}
 use Rattle.homeo_cert.specs.inner.Sections.{sections}
 
 -- the certificate of a plan's base and bounds, with this template for so many sites

@@ -2,10 +2,10 @@
 
 ghost use Rattle.std.specs.Prelude.{◌≡◌, ◌∷◌, ◌++◌, map, OnOk, IfOk};
 ghost use Rattle.homeo_syntax.specs.LowView.{low_exprs, low_tests, low_commands, plain_lexpr, plain_ltest, plain_lcond, plain_lcommand};
-ghost use Rattle.homeo_cert.specs.Nodes.{name_node, write_node, test_count, expr_nodes, exprs_nodes, test_nodes, cond_nodes, command_nodes, commands_nodes};
-ghost use Rattle.homeo_cert.specs.declared.nodes.Node.TheVariants.{If};
+ghost use Rattle.homeo_certificate.specs.Nodes.{name_node, write_node, test_count, expr_nodes, exprs_nodes, test_nodes, cond_nodes, command_nodes, commands_nodes};
+ghost use Rattle.homeo_certificate.specs.declared.nodes.Node.TheVariants.{If};
 
-use crate::nodes::Node;
+use homeo_certificate::Node;
 use homeo_syntax::{LCommand, LCond, LExpr, LTest, Memory, SplitName};
 use std::alloc::Global;
 
@@ -19,7 +19,7 @@ pub(crate) fn nodes_of(alloc: Global, c: &LCommand) -> Result<Vec<Node>, Memory>
 }
 
 /// The node of a name that is read.
-#[tactic(auto, unfolding(crate::specs::Key::definitions))]
+#[tactic(auto, unfolding(homeo_certificate::specs::Key::definitions))]
 fn name_node(name: SplitName) -> Node
     ensures { result ≡ name_node name }
 {
@@ -30,7 +30,7 @@ fn name_node(name: SplitName) -> Node
 }
 
 /// The node of a name that is written.
-#[tactic(auto, unfolding(crate::specs::Key::definitions))]
+#[tactic(auto, unfolding(homeo_certificate::specs::Key::definitions))]
 fn write_node(name: SplitName) -> Node
     ensures { result ≡ write_node name }
 {

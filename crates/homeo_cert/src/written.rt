@@ -6,12 +6,12 @@ ghost use Rattle.homeo_plan.specs.PlanView.{plain_clause};
 ghost use Rattle.homeo_plan.specs.declared.templates.Clause.{Clause};
 ghost use Rattle.serde_json.specs.Data.{Data};
 ghost use Rattle.serde_json.specs.Events.{SendsValue};
-ghost use Rattle.homeo_cert.specs.Json.{whole_data, wholes_data, list_data, named, node_data, temp_data, compare_data};
-ghost use Rattle.homeo_cert.specs.Text.{delta_data, term_data, clause_data};
+ghost use Rattle.homeo_certificate.specs.Json.{whole_data, wholes_data, list_data, named, node_data, temp_data, compare_data};
+ghost use Rattle.homeo_certificate.specs.Text.{delta_data, term_data, clause_data};
 ghost use Rattle.homeo_cert.specs.inner.Sends.{SendsMember};
-ghost use Rattle.homeo_cert.specs.declared.nodes.Node.TheVariants.{Literal};
+ghost use Rattle.homeo_certificate.specs.declared.nodes.Node.TheVariants.{Literal};
 
-use crate::nodes::Node;
+use homeo_certificate::Node;
 use homeo_plan::{Clause, Delta, Term};
 use homeo_syntax::{Compare, List, Temp};
 use serde::{Serialize, Serializer};
@@ -125,7 +125,7 @@ impl Written for Clause {
 impl Written for Node {
     ghost json = { node_data };
 
-    #[tactic(auto, unfolding(crate::specs::Key::definitions))]
+    #[tactic(auto, unfolding(homeo_certificate::specs::Key::definitions))]
     fn write<S: Serializer>(&self, out: &mut S) -> Result<(), S::Error> {
         match *self {
             Node::Skip => write_bare("skip", out),
@@ -183,7 +183,7 @@ fn write_with_delta<S: Serializer>(
     out.end_seq()
 }
 
-#[tactic(auto, unfolding(crate::specs::Key::definitions))]
+#[tactic(auto, unfolding(homeo_certificate::specs::Key::definitions))]
 fn write_compare<S: Serializer>(op: Compare, out: &mut S) -> Result<(), S::Error>
     ensures { OnOk result (SendsValue (compare_data op) (S.written out.old) (S.written out.new)) }
 {
@@ -194,7 +194,7 @@ fn write_compare<S: Serializer>(op: Compare, out: &mut S) -> Result<(), S::Error
     }
 }
 
-#[tactic(auto, unfolding(crate::specs::Key::definitions))]
+#[tactic(auto, unfolding(homeo_certificate::specs::Key::definitions))]
 fn write_temp<S: Serializer>(t: Temp, out: &mut S) -> Result<(), S::Error>
     ensures { OnOk result (SendsValue (temp_data t) (S.written out.old) (S.written out.new)) }
 {
@@ -205,7 +205,7 @@ fn write_temp<S: Serializer>(t: Temp, out: &mut S) -> Result<(), S::Error>
 }
 
 /// Writes a literal.
-#[tactic(auto, unfolding(crate::specs::Key::definitions))]
+#[tactic(auto, unfolding(homeo_certificate::specs::Key::definitions))]
 fn write_literal<S: Serializer>(n: i64, out: &mut S) -> Result<(), S::Error>
     ensures { OnOk result (SendsValue (node_data (Literal n)) (S.written out.old) (S.written out.new)) }
 {

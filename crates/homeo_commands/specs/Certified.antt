@@ -5,11 +5,11 @@ use Rattle.homeo_syntax.specs.declared.workload.Refusal.{Refusal}
 use Rattle.homeo_syntax.specs.Source as s
 use Rattle.homeo_meaning.specs.Initial.{initial}
 use Rattle.homeo_plan.specs.Planned.{policy}
-use Rattle.homeo_cert.specs.Certified.{certificate_of}
-use Rattle.homeo_cert.specs.Text.{text_of}
-use Rattle.homeo_cert.specs.Verdict.{IsVerdictOn}
-use Rattle.homeo_cert.specs.declared.verdict.Verdict.{Verdict}
-use Rattle.homeo_cert.specs.declared.verdict.Verdict.TheVariants.{Valid, Json, Shape, Bounds, Size, Freeze, Clause, Foreign}
+use Rattle.homeo_certificate.specs.Certified.{certificate_of}
+use Rattle.homeo_certificate.specs.Text.{text_of}
+use Rattle.homeo_certificate.specs.Verdict.{IsVerdictOn}
+use Rattle.homeo_certificate.specs.declared.verdict.Verdict.{Verdict}
+use Rattle.homeo_certificate.specs.declared.verdict.Verdict.TheVariants.{Valid, Json, Shape, Bounds, Size, Freeze, Clause, Foreign}
 
 abbrev pub certificate_limit : ℕ
 certificate_limit = 16777216

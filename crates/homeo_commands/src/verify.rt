@@ -9,9 +9,10 @@ ghost use Rattle.homeo_commands.specs.Certified.{certificate_limit, unended, ver
 ghost use Rattle.homeo_commands.specs.Made.{OfStream};
 
 use crate::stop::Stop;
-use homeo_cert::{Verdict, verify};
+use homeo_certificate::Verdict;
 use homeo_io::{ReadError, Source, read_all};
 use homeo_syntax::{Memory, Refusal};
+use homeo_verify::verify;
 use std::alloc::Global;
 
 /// The most bytes that a certificate may have, and a newline.

@@ -7,9 +7,11 @@ use crate::same::{same, same_items};
 use crate::shops::compiled;
 use homeo_build::Compiled;
 use homeo_build::treaties::treaties;
-use homeo_cert::{Verdict, certificate, verify};
+use homeo_cert::certificate;
+use homeo_certificate::Verdict;
 use homeo_eval::initial;
 use homeo_plan::{Delta, RoundPlan};
+use homeo_verify::verify;
 use std::alloc::Global;
 use std::process::Abort;
 

@@ -5,9 +5,9 @@ use Rattle.homeo_syntax.specs.Source as s
 use Rattle.homeo_plan.specs.declared.round.RoundPlan.{RoundPlan}
 use Rattle.homeo_plan.specs.PlanView.{plain_clause}
 use Rattle.homeo_plan.specs.Planned.{sites_of, planned}
-use Rattle.homeo_cert.specs.Certified.{certified_call}
-use Rattle.homeo_cert.specs.Json.{whole_data, list_data, wholes_data}
-use Rattle.homeo_cert.specs.Text.{call_data, clause_data, delta_data}
+use Rattle.homeo_certificate.specs.Certified.{certified_call}
+use Rattle.homeo_certificate.specs.Json.{whole_data, list_data, wholes_data}
+use Rattle.homeo_certificate.specs.Text.{call_data, clause_data, delta_data}
 
 -- each ground call, with its command for its site
 abbrev pub calls_data : s.Workload → Data

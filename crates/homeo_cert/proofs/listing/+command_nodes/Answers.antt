@@ -1,7 +1,7 @@
 -- One more of a list, and the end.
 use Rattle.std.proofs.Common.{◌+◌, map, drop}
 use Rattle.homeo_syntax.specs.LowView.{low_commands, plain_lcommand}
-use Rattle.homeo_cert.specs.Nodes.{commands_nodes, command_nodes}
+use Rattle.homeo_certificate.specs.Nodes.{commands_nodes, command_nodes}
 use Rattle.homeo_cert.proofs.Listings.{commands_next, commands_none, one_more, none_left}
 use Rattle.homeo_cert.proofs.listing.+command_nodes.Goals as goal
 

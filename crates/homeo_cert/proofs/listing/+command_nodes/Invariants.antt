@@ -1,7 +1,7 @@
 -- What is listed, with what is left.
 use Rattle.std.proofs.Common.{◌≡◌, ◌++◌, map, drop}
 use Rattle.homeo_syntax.specs.LowView.{low_commands, plain_lcommand}
-use Rattle.homeo_cert.specs.Nodes.{commands_nodes}
+use Rattle.homeo_certificate.specs.Nodes.{commands_nodes}
 use Rattle.homeo_cert.proofs.listing.+command_nodes.Given as goal
 
 abbrev pub invariant-push_commands-loop-c : goal.invariant-push_commands-loop-c

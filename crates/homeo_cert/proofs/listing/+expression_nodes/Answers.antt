@@ -1,7 +1,7 @@
 -- One more of a list, and the end.
 use Rattle.std.proofs.Common.{◌+◌, map, drop}
 use Rattle.homeo_syntax.specs.LowView.{low_exprs, plain_lexpr}
-use Rattle.homeo_cert.specs.Nodes.{exprs_nodes, expr_nodes}
+use Rattle.homeo_certificate.specs.Nodes.{exprs_nodes, expr_nodes}
 use Rattle.homeo_cert.proofs.Listings.{exprs_next, exprs_none, one_more, none_left}
 use Rattle.homeo_cert.proofs.listing.+expression_nodes.Goals as goal
 

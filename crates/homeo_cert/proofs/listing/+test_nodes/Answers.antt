@@ -1,7 +1,7 @@
 -- One more of a list, and the end.
 use Rattle.std.proofs.Common.{◌+◌, map, drop}
 use Rattle.homeo_syntax.specs.LowView.{low_tests, plain_ltest}
-use Rattle.homeo_cert.specs.Nodes.{cond_nodes, test_nodes}
+use Rattle.homeo_certificate.specs.Nodes.{cond_nodes, test_nodes}
 use Rattle.homeo_cert.proofs.Listings.{tests_next, tests_none, one_more, none_left}
 use Rattle.homeo_cert.proofs.listing.+test_nodes.Goals as goal
 

@@ -8,9 +8,9 @@ use Rattle.homeo_plan.specs.Key.{definitions as plan_definitions}
 use Rattle.homeo_plan.specs.Planned.{sites_of}
 use Rattle.homeo_plan.specs.Template.{PlannedCall, shifted}
 use Rattle.homeo_build.proofs.Grown.{same_length, same_place}
-use Rattle.homeo_cert.specs.Certified.{certified_call}
-use Rattle.homeo_cert.specs.Json.{list_data}
-use Rattle.homeo_cert.specs.Text.{call_data}
+use Rattle.homeo_certificate.specs.Certified.{certified_call}
+use Rattle.homeo_certificate.specs.Json.{list_data}
+use Rattle.homeo_certificate.specs.Text.{call_data}
 use Rattle.homeo_cert.proofs.CallValues.{of_call, of_calls, commands_are}
 use Rattle.homeo_cert.proofs.Lists.{list_more, list_sent}
 use Rattle.homeo_cert.proofs.writing.CallsWritten.write.Goals as goal

@@ -9,8 +9,8 @@ use Rattle.homeo_syntax.specs.SourceView.{plain_workload}
 use Rattle.homeo_plan.specs.declared.round.RoundPlan.{RoundPlan}
 use Rattle.homeo_plan.specs.declared.templates.Clause.{Clause}
 use Rattle.homeo_plan.specs.PlanView.{plain_clause}
-use Rattle.homeo_cert.specs.Json.{whole_data, list_data, wholes_data}
-use Rattle.homeo_cert.specs.Text.{clause_data, delta_data}
+use Rattle.homeo_certificate.specs.Json.{whole_data, list_data, wholes_data}
+use Rattle.homeo_certificate.specs.Text.{clause_data, delta_data}
 use Rattle.homeo_cert.specs.inner.Sections.{calls_data, sections}
 use Rattle.homeo_cert.specs.inner.Sends.{SendsMember}
 use Rattle.homeo_cert.proofs.writing.SectionsSerialize.serialize.Goals as goal

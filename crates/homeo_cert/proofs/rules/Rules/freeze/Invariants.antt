@@ -1,8 +1,0 @@
--- The deltas so far are frozen.
-use Rattle.std.proofs.Common.{◌≡◌, drop}
-use Rattle.homeo_cert.specs.Followed.{not_frozen}
-use Rattle.homeo_cert.specs.inner.RulesView.{plain_rules}
-use Rattle.homeo_cert.proofs.rules.Rules.freeze.Given as goal
-
-abbrev pub invariant-loop-delta : goal.invariant-loop-delta
-invariant-loop-delta l = not_frozen (plain_rules l.self) (drop l.delta-index l.deltas) ≡ not_frozen (plain_rules l.self) l.deltas

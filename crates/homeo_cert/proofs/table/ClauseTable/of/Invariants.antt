@@ -1,8 +1,0 @@
--- The least slacks of the clauses so far.
-use Rattle.std.proofs.Common.{map, take}
-use Rattle.homeo_plan.specs.PlanView.{plain_clause}
-use Rattle.homeo_cert.specs.inner.Slacks.{AreSlacks}
-use Rattle.homeo_cert.proofs.table.ClauseTable.of.Given as goal
-
-abbrev pub invariant-loop-clause : goal.invariant-loop-clause
-invariant-loop-clause l = AreSlacks l.least (map plain_clause (take l.clause-index l.clauses))

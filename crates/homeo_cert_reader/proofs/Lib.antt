@@ -1,0 +1,10 @@
+pub mod CallsRead
+pub mod CertificatesRead
+pub mod ClausesRead
+pub mod DeltasInOrder
+pub mod FreezesRead
+pub mod Frozen
+pub mod NamedNodes
+pub mod ParseSound
+pub mod ParseSteps
+pub mod ReadLists

@@ -1,0 +1,22 @@
+use Rattle.std.proofs.Common.{◌≡◌, ◌+◌, ◌-◌, ◌*◌, map}
+use Rattle.homeo_syntax.specs.LowView.{plain_lcommand}
+use Rattle.homeo_certificate.specs.Parse.{many, parse_command}
+use Rattle.homeo_cert_reader.proofs.ParseSteps.{with_read}
+use Rattle.homeo_cert_reader.proofs.parsing_commands.+commands.Given as goal
+
+abbrev pub decreases-command : goal.decreases-command
+decreases-command l = 4 * l.levels
+
+abbrev pub decreases-boxed : goal.decreases-boxed
+decreases-boxed l = 4 * l.levels + 1
+
+abbrev pub decreases-choice : goal.decreases-choice
+decreases-choice l = 4 * l.levels + 2
+
+abbrev pub decreases-commands : goal.decreases-commands
+decreases-commands l = 4 * l.levels + 1
+
+abbrev pub invariant-commands-loop : goal.invariant-commands-loop
+invariant-commands-loop l =
+    many (parse_command l.levels) l.count l.initial.nodes ≡
+    with_read (map plain_lcommand l.commands.items) (many (parse_command l.levels) (l.count - l.counter) l.nodes)

@@ -1,0 +1,78 @@
+-- Each kind of test, and one more of them.
+use Rattle.std.proofs.Common.{rules, ◌≡◌, suc, map, IfOk, Some, option_map, ◌+◌, ◌-◌, [], ◌∷◌, sym, ap, ap₂, ◌∙◌, subst, arith}
+use Rattle.std.proofs.lemmas.List.{map-append}
+use Rattle.homeo_syntax.specs.Low.{Not}
+use Rattle.homeo_syntax.specs.LowView.{plain_ltest, low_tests}
+use Rattle.homeo_syntax.proofs.LowViews.{low_phrase_views}
+use Rattle.homeo_certificate.specs.Key.{definitions}
+use Rattle.homeo_certificate.specs.Parse.{seen, many, parse_test, Gives}
+use Rattle.homeo_cert_reader.proofs.ParseSteps.{no_test_without_nodes, no_test_without_levels, first_of, other_test, with_read, with_none, with_one_more, with_failed, with_all, given_some, given_none}
+use Rattle.homeo_cert_reader.proofs.parsing_tests.+tests.Goals as goal
+
+pub test-returns-then-levels-eq0 : goal.test-returns-then-levels-eq0
+test-returns-then-levels-eq0 t c = no_test_without_levels c.args.levels c.args.nodes.now (omega arith)
+
+pub test-returns-in_default : goal.test-returns-in_default
+test-returns-in_default t c = no_test_without_nodes c.args.levels c.args.nodes.now (grind arith)
+
+pub test-returns-in-True : goal.test-returns-in-True
+unfolding definitions
+test-returns-in-True t c =
+    first_of parse_test c.args.levels _ _ c.args.nodes.now c.next.new.self (omega arith) c.in-Some.ensures c.in-True.is
+    ∙ ap (λ e. Some (e, c.next.new.self)) (sym (search (rules, low_phrase_views)))
+
+pub test-returns-in-Some-2 : goal.test-returns-in-Some-2
+unfolding definitions
+test-returns-in-Some-2 t c =
+    let p = c.tests.new.nodes in
+    let got = given_some _ _ c.in_ok-tests-in-Not.field-0 c.in-Some-2.tests p c.in-Some-2.is c.in_ok-tests-in-Not.ensures in
+    first_of parse_test c.args.levels _ _ c.args.nodes.now c.next.new.self (omega arith) c.in-Some.ensures c.in-Not.is
+    ∙ ap (seen (λ ts. Not (low_tests ts))) got ∙ ap (λ e. Some (e, p)) (sym (search (rules, low_phrase_views)))
+
+pub test-returns-in-None : goal.test-returns-in-None
+unfolding definitions
+test-returns-in-None t c =
+    let got = given_none _ _ c.in_ok-tests-in-Not.field-0 c.tests.new.nodes c.in-None.is c.in_ok-tests-in-Not.ensures in
+    first_of parse_test c.args.levels _ _ c.args.nodes.now c.next.new.self (omega arith) c.in-Some.ensures c.in-Not.is
+    ∙ ap (seen (λ ts. Not (low_tests ts))) got
+
+pub test-returns-in_default-node : goal.test-returns-in_default-node
+test-returns-in_default-node t c =
+    let d = c.in_default-node in
+    other_test c.args.levels c.in-Some.node c.args.nodes.now c.next.new.self c.in-Some.ensures d.not-True d.not-Not d.not-Comparison
+
+pub tests-loop-init : goal.tests-loop-init
+tests-loop-init t c =
+    let n : c.args.count ≡ c.args.count - 0 = omega arith in
+    sym (with_none (many (parse_test c.args.levels) c.args.count c.args.nodes.now))
+    ∙ ap₂ (λ xs k. with_read (map plain_ltest xs) (many (parse_test c.args.levels) k c.args.nodes.now)) (sym (ap (λ l. l.items) c.in_ok-tests.ensures)) n
+
+pub tests-returns-in-None : goal.tests-returns-in-None
+tests-returns-in-None t c =
+    let n : c.args.count - c.loop.counter ≡ suc (c.args.count - (c.loop.counter + 1)) = omega (arith, c.loop-test.true) in
+    c.loop.invariant
+    ∙ ap (λ k. with_read (map plain_ltest c.loop.tests.items) (many (parse_test c.args.levels) k c.loop.nodes)) n
+    ∙ with_failed (parse_test c.args.levels) _ _ c.loop.nodes (given_none _ plain_ltest c.in_ok-t.field-0 c.test.new.nodes c.in-None.is c.in_ok-t.ensures)
+
+pub tests-loop-preserved : goal.tests-loop-preserved
+tests-loop-preserved t c =
+    let n : c.args.count - c.loop.counter ≡ suc (c.args.count - (c.loop.counter + 1)) = omega (arith, c.loop-test.true) in
+    c.loop.invariant
+    ∙ ap (λ k. with_read (map plain_ltest c.loop.tests.items) (many (parse_test c.args.levels) k c.loop.nodes)) n
+    ∙ with_one_more (parse_test c.args.levels) _ (map plain_ltest c.loop.tests.items) (plain_ltest c.in-Some.t) c.loop.nodes c.test.new.nodes
+    (given_some _ plain_ltest c.in_ok-t.field-0 c.in-Some.t c.test.new.nodes c.in-Some.is c.in_ok-t.ensures)
+    ∙ ap (λ xs. with_read xs (many (parse_test c.args.levels) (c.args.count - (c.loop.counter + 1)) c.test.new.nodes))
+    (sym (map-append plain_ltest c.loop.tests.items (c.in-Some.t ∷ [])) ∙ ap (λ l. map plain_ltest l.items) (sym c.in_ok-push-in-Some.ensures.ok))
+
+pub tests-returns : goal.tests-returns
+tests-returns t c =
+    let n : c.args.count - c.loop.counter ≡ 0 = omega (arith, c.loop-test.false) in
+    c.loop.invariant
+    ∙ ap (λ k. with_read (map plain_ltest c.loop.tests.items) (many (parse_test c.args.levels) k c.loop.nodes)) n
+    ∙ with_all (parse_test c.args.levels) (map plain_ltest c.loop.tests.items) c.loop.nodes
+
+pub test-returns-in-Comparison : goal.test-returns-in-Comparison
+unfolding definitions
+test-returns-in-Comparison t c =
+    subst (λ p. IfOk c.comparison.result (λ o. Gives p (option_map plain_ltest o) c.comparison.new.nodes))
+    (sym (first_of parse_test c.args.levels _ _ c.args.nodes.now c.next.new.self (omega arith) c.in-Some.ensures c.in-Comparison.is)) c.comparison.ensures

@@ -1,0 +1,3 @@
+pub mod CertificateView
+pub mod Read
+pub mod inner

@@ -1,0 +1,13 @@
+pub mod Constants
+pub mod Examples
+pub mod FaultLists
+pub mod KeptTests
+pub mod NodesInShape
+pub mod OneCertificate
+pub mod OneVerdict
+pub mod RunsAlike
+pub mod SmallMet
+pub mod Soundness
+pub mod TextExample
+pub mod TextReads
+pub mod Unique

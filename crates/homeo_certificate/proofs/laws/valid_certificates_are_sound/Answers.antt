@@ -1,0 +1,5 @@
+use Rattle.homeo_certificate.proofs.Soundness.{valid_is_sound}
+use Rattle.homeo_certificate.proofs.laws.valid_certificates_are_sound.Goals as goal
+
+pub returns : goal.returns
+returns c = valid_is_sound

@@ -1,0 +1,17 @@
+pub mod Branches
+pub mod Certificate
+pub mod Certified
+pub mod Followed
+pub mod Json
+pub mod Kept
+pub mod Key
+pub mod Laws
+pub mod Met
+pub mod Nesting
+pub mod NodeShapes
+pub mod Nodes
+pub mod Parse
+pub mod Shape
+pub mod Sound
+pub mod Text
+pub mod Verdict

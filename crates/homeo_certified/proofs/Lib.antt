@@ -1,0 +1,16 @@
+pub mod CertificatesInShape
+pub mod CertifiedCalls
+pub mod CertifiedTexts
+pub mod FormNesting
+pub mod FormedForms
+pub mod FreshBelow
+pub mod FreshNumbers
+pub mod GroundsInShape
+pub mod NoFaults
+pub mod RowsBack
+pub mod RowsInShape
+pub mod ShiftInShape
+pub mod ShiftNesting
+pub mod TemplatesInShape
+pub mod TextDepth
+pub mod TextNesting

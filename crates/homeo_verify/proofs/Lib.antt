@@ -1,0 +1,9 @@
+pub mod FlatSteps
+pub mod FollowSteps
+pub mod LargeNumbers
+pub mod MetSmall
+pub mod RuleSteps
+pub mod SlackSteps
+pub mod Stopping
+pub mod TestSteps
+pub mod Verdicts

@@ -1,0 +1,5 @@
+pub mod Compares
+pub mod Follows
+pub mod RulesView
+pub mod Slacks
+pub mod Stops
