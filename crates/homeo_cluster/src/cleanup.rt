@@ -32,11 +32,12 @@ use crate::frame::Frame;
 use crate::local::{Tried, push_reserved};
 use crate::naming::ClusterNaming;
 use crate::pass::ClientPass;
-use homeo_core::{Gather, Prepared};
+use homeo_core::{Prepared, prepare};
 use homeo_history::{Answer, Path, Round};
 use homeo_meaning::{CallId, Database};
 use homeo_notes::Holder;
 use homeo_plan::Broken;
+use homeo_round::Gather;
 use homeo_syntax::{List, Memory};
 use std::alloc::Global;
 use std::sync::{MutexGuard, Wait};
@@ -159,7 +160,7 @@ impl<N: ClusterNaming> Frame<N> {
     {
         self.accepted();
         let gather = gather_row(alloc, book, cells)?;
-        let prepared = gather.prepare(alloc, &self.compiled, call, broken)?;
+        let prepared = prepare(alloc, gather, &self.compiled, call, broken)?;
         Ok(prepared)
     }
 

@@ -14,23 +14,9 @@ use Rattle.homeo_plan.specs.Split.{sum_from}
 use Rattle.homeo_plan.proofs.Sums.{sum_same, sum_next}
 use Rattle.homeo_history.proofs.ValueLists.{like_itself}
 use Rattle.homeo_site.specs.SiteState.{SiteState}
-use Rattle.homeo_core.specs.Joined.{plus_deltas, gathered}
-
--- ---- deltas added to values
-plus_at : (values deltas : List ℤ) (n : ℕ) → length deltas ≤ length values → get_or (plus_deltas values deltas) n (pos 0) ≡ get_or values n (pos 0) +ℤ get_or deltas n (pos 0)
-unfolding definitions
-plus_at [] [] n le = refl
-plus_at [] (d ∷ deltas) n le = absurd (omega (arith, le))
-plus_at (v ∷ values) [] zero le = omega (arith, ints)
-plus_at (v ∷ values) [] (suc n) le = omega (arith, ints)
-plus_at (v ∷ values) (d ∷ deltas) zero le = refl
-plus_at (v ∷ values) (d ∷ deltas) (suc n) le = plus_at values deltas n (omega (arith, le))
-
-pub plus_length : (values deltas : List ℤ) → length (plus_deltas values deltas) ≡ length values
-unfolding definitions
-plus_length [] deltas = refl
-plus_length (v ∷ values) [] = refl
-plus_length (v ∷ values) (d ∷ deltas) = ap suc (plus_length values deltas)
+use Rattle.homeo_round.specs.PlusDeltas.{plus_deltas}
+use Rattle.homeo_round.proofs.Added.{plus_at, plus_length}
+use Rattle.homeo_core.specs.Joined.{gathered}
 
 -- ---- sums over sites
 sum_nothing : (j k : ℕ) (f : ℕ → ℤ) → ((i : ℕ) → j ≤ i → f i ≡ pos 0) → sum_from j k f ≡ pos 0

@@ -6,7 +6,8 @@ use mathlib.Core.Logic.{⊎_elim}
 use Rattle.homeo_history.proofs.Lists.{All-get, all_from_get, set_cases}
 use Rattle.homeo_site.specs.SiteState.{SiteState}
 use Rattle.homeo_site.specs.SiteView.{SiteValue}
-use Rattle.homeo_core.specs.Joined.{plus_deltas, gathered, segments_of}
+use Rattle.homeo_round.specs.PlusDeltas.{plus_deltas}
+use Rattle.homeo_core.specs.Joined.{gathered, segments_of}
 use Rattle.homeo_core.specs.SiteLists.{states, IsAt, AreAt, first_from}
 
 pub states_at : (sites : List SiteValue) (i : ℕ) (d : SiteValue) → i < length sites → slice_get (states sites) i ≡ Some (get_or sites i d).state

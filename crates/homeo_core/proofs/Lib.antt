@@ -1,4 +1,3 @@
-pub mod Added
 pub mod CallsMade
 pub mod ClosingCalls
 pub mod CoreStarts

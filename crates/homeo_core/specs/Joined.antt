@@ -1,5 +1,5 @@
 -- Closed rounds and the sites of the open one, as one state (this project's rule).
-use Rattle.std.specs.Prelude.{◌≡◌, ℕ, List, [], ◌∷◌, ◌++◌, map, length, ℤ, ◌+ℤ◌, Some, None, IsSome, All, slice_get}
+use Rattle.std.specs.Prelude.{◌≡◌, ℕ, List, [], ◌∷◌, ◌++◌, map, length, ℤ, Some, None, IsSome, All, slice_get}
 use Rattle.homeo_syntax.specs.Source as s
 use Rattle.homeo_meaning.specs.Bounds.{IsWithin}
 use Rattle.homeo_meaning.specs.Schema.{schema_of}
@@ -8,6 +8,7 @@ use Rattle.homeo_history.specs.History.{Entry, Round, History}
 use Rattle.homeo_history.specs.Legal.{IsAtSites, base_or, AreSerial}
 use Rattle.homeo_history.specs.Replayed.{IsReplayed}
 use Rattle.homeo_site.specs.SiteState.{SiteState, SiteHolds}
+use Rattle.homeo_round.specs.PlusDeltas.{plus_deltas}
 use Rattle.homeo_core.specs.Key.{definitions}
 
 -- the closed rounds, and the base of the round after them
@@ -51,13 +52,6 @@ segments_of sites = map (λ x. x.segment) sites
 abbrev pub open_round : List ℤ → List SiteState → Round
 unfolding definitions
 open_round base sites = record { base = base; segments = segments_of sites; closing = None }
-
--- values with deltas added to them, object by object
-abbrev pub plus_deltas : List ℤ → List ℤ → List ℤ
-unfolding definitions
-plus_deltas [] deltas = []
-plus_deltas (v ∷ values) [] = v ∷ values
-plus_deltas (v ∷ values) (d ∷ deltas) = (v +ℤ d) ∷ plus_deltas values deltas
 
 -- a base with the deltas of these sites, one site after another
 abbrev pub gathered : List ℤ → List SiteState → List ℤ

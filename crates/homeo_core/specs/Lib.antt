@@ -1,10 +1,9 @@
 pub mod Books
 pub mod CoreView
 pub mod Events
-pub mod GatherView
 pub mod Joined
 pub mod Key
 pub mod Laws
+pub mod PreparedView
 pub mod SiteLists
 pub mod Starts
-pub mod Tried

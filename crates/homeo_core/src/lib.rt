@@ -3,14 +3,10 @@
 #![tactic(auto)]
 
 pub mod clients;
-mod gather;
 pub mod laws;
-mod local;
 mod prepared;
 mod rounds;
 mod steps;
 
-pub use gather::{Gather, add_deltas};
-pub use local::{Tried, try_call};
-pub use prepared::Prepared;
+pub use prepared::{Prepared, prepare};
 pub use steps::Core;

@@ -17,7 +17,6 @@ ghost use Rattle.homeo_core.specs.Events.{closing_on};
 ghost use Rattle.homeo_core.specs.Starts.{AreStarts, waits};
 
 use crate::clients::{site_count, site_of};
-use crate::gather::Gather;
 use homeo_build::Compiled;
 use homeo_build::treaties::plan_at;
 use homeo_eval::eval_call;
@@ -25,6 +24,7 @@ use homeo_follow::ObjectPlan;
 use homeo_history::{Answer, Closing, Entry, Path, Round, Segment};
 use homeo_meaning::{Accepted, CallId, Database};
 use homeo_plan::Broken;
+use homeo_round::{Gather, Gathered};
 use homeo_site::{Site, SiteStart};
 use homeo_syntax::{List, Memory, Prints};
 use std::alloc::Global;
@@ -48,7 +48,7 @@ impl Model for Prepared {
     ghost use Rattle.std.specs.Prelude.{◌≡◌, map, length};
     ghost use Rattle.std.specs.Coded.{codes};
     ghost use Rattle.homeo_syntax.specs.contracts.workload.Workload as workload;
-    ghost use Rattle.homeo_core.specs.GatherView.{PreparedValue};
+    ghost use Rattle.homeo_core.specs.PreparedView.{PreparedValue};
 
     ghost Value = { PreparedValue };
 
@@ -73,55 +73,51 @@ impl Model for Prepared {
         × (length p.segments.items ≡ length p.starts.items) };
 }
 
-impl Gather {
-    /// Ends the round, to which all sites were added: it runs the closing call's program on the gathered database, and makes
-    /// the plan of the next round and each site's start in it. It takes all the memory that the end of the round needs, and
-    /// changes no site. `broken` is what the call's local step breaks first of its site's treaty.
-    ///
-    /// # Errors
-    ///
-    /// `Memory` when out of memory.
-    pub fn prepare(
-        self,
-        alloc: Global,
-        c: &Arc<Compiled>,
-        call: CallId,
-        broken: Broken,
-    ) -> Result<Prepared, Memory>
-        requires sites { self.added ≡ sites_of (plain_workload c.now.value) }
-        requires exists { CallExists (plain_workload c.now.value) call }
-        requires within { IsWithin (schema_of (plain_workload c.now.value)) self.sum }
-        ensures { IfOk result (λ p. p ≡ record {
-          work = c.now.value;
-          round = self.round;
-          base = self.base;
-          closing = closing_on (plain_workload c.now.value) self.sum (site_or_zero (plain_workload c.now.value) call) call broken;
-          next = (call_outcome (plain_workload c.now.value) call self.sum).database;
-          segments = replicate (sites_of (plain_workload c.now.value)) [];
-          waiting = replicate (sites_of (plain_workload c.now.value)) true;
-        }) }
-    {
-        let Gather {
-            round,
-            base,
-            sum,
-            added: _,
-        } = self;
-        let mut next = List::from_vec(sum);
-        let prints = run_call(alloc, c, call, &mut next)?;
-        let plan = plan_at(alloc, c, &next)?;
-        let (closing, answer) = close_by(alloc, c.workload(), round, call, broken, prints)?;
-        Ok(Prepared {
-            compiled: Arc::try_clone(c)?,
-            round,
-            base,
-            closing,
-            answer,
-            next,
-            segments: empty_segments(alloc, c.workload())?,
-            starts: starts_after(alloc, c, &plan, round)?,
-        })
-    }
+/// Ends the round, to which all sites were added: it runs the closing call's program on the gathered database, and makes
+/// the plan of the next round and each site's start in it. It takes all the memory that the end of the round needs, and
+/// changes no site. `broken` is what the call's local step breaks first of its site's treaty.
+///
+/// # Errors
+///
+/// `Memory` when out of memory.
+pub fn prepare(
+    alloc: Global,
+    gather: Gather,
+    c: &Arc<Compiled>,
+    call: CallId,
+    broken: Broken,
+) -> Result<Prepared, Memory>
+    requires sites { gather.added ≡ sites_of (plain_workload c.now.value) }
+    requires exists { CallExists (plain_workload c.now.value) call }
+    requires within { IsWithin (schema_of (plain_workload c.now.value)) gather.sum }
+    ensures { IfOk result (λ p. p ≡ record {
+      work = c.now.value;
+      round = gather.round;
+      base = gather.base;
+      closing = closing_on (plain_workload c.now.value) gather.sum (site_or_zero (plain_workload c.now.value) call) call broken;
+      next = (call_outcome (plain_workload c.now.value) call gather.sum).database;
+      segments = replicate (sites_of (plain_workload c.now.value)) [];
+      waiting = replicate (sites_of (plain_workload c.now.value)) true;
+    }) }
+{
+    let Gathered {
+        round,
+        base,
+        sum: mut next,
+    } = gather.into_parts();
+    let prints = run_call(alloc, c, call, &mut next)?;
+    let plan = plan_at(alloc, c, &next)?;
+    let (closing, answer) = close_by(alloc, c.workload(), round, call, broken, prints)?;
+    Ok(Prepared {
+        compiled: Arc::try_clone(c)?,
+        round,
+        base,
+        closing,
+        answer,
+        next,
+        segments: empty_segments(alloc, c.workload())?,
+        starts: starts_after(alloc, c, &plan, round)?,
+    })
 }
 
 /// Runs a call's program on a database, which becomes what the call leaves.

@@ -14,12 +14,12 @@ ghost use Rattle.homeo_core.specs.Joined.{AreJoined, gathered, segments_of};
 ghost use Rattle.homeo_core.specs.Books.{book_of};
 ghost use Rattle.homeo_core.specs.SiteLists.{states, AreOf, AreAt};
 
-use crate::gather::Gather;
-use crate::prepared::Prepared;
+use crate::prepared::{Prepared, prepare};
 use homeo_build::Compiled;
 use homeo_history::{Answer, Round, Segment};
 use homeo_meaning::{CallId, Database};
 use homeo_plan::Broken;
+use homeo_round::Gather;
 use homeo_site::Site;
 use homeo_syntax::{List, Memory};
 use std::alloc::Global;
@@ -130,7 +130,7 @@ pub(crate) fn close_round(
     closed.reserve(1)?;
     let round = closed.as_slice().len() as u64;
     let gather = gather_all(alloc, round, base, sites)?;
-    let mut prepared = gather.prepare(alloc, c, call, broken)?;
+    let mut prepared = prepare(alloc, gather, c, call, broken)?;
     install_all(&mut prepared, sites);
     let (round, next, answer) = prepared.closed();
     push_reserved(closed, round);

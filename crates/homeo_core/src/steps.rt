@@ -19,7 +19,6 @@ ghost use Rattle.homeo_core.specs.Books.{book_of};
 ghost use Rattle.homeo_core.specs.SiteLists.{states, AreOf};
 
 use crate::clients::{call_count, client_count, site_count, site_of};
-use crate::local::{Tried, try_call};
 use crate::rounds::{close_round, gathered_values, into_segments};
 use homeo_build::Compiled;
 use homeo_build::treaties::plan_at;
@@ -27,6 +26,7 @@ use homeo_eval::initial;
 use homeo_follow::ObjectPlan;
 use homeo_history::{Answer, History, Path, Round};
 use homeo_meaning::{Accepted, CallId, Database};
+use homeo_round::{Tried, try_call};
 use homeo_site::{Site, SiteStart};
 use homeo_syntax::{List, Memory};
 use std::alloc::Global;
@@ -190,7 +190,7 @@ impl Core {
 }
 
 /// Makes a call at its site where it keeps the site's treaty, and else closes the round by it.
-#[tactic(auto, unfolding(crate::specs::Key::definitions))]
+#[tactic(auto, unfolding(homeo_round::specs::Key::definitions, crate::specs::Key::definitions))]
 fn make_call(
     alloc: Global,
     c: &Arc<Compiled>,

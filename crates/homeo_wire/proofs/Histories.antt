@@ -5,7 +5,8 @@ use Rattle.std.proofs.Common.{◌≡◌, ℕ, zero, suc, ◌+◌, ◌<◌, ◌�
 use Rattle.std.specs.Prelude.{find, filter, ◌==◌}
 use Rattle.std.proofs.lemmas.List.{length-map, map-append}
 use Rattle.homeo_site.specs.SiteState.{SiteState}
-use Rattle.homeo_core.specs.Joined.{plus_deltas, gathered}
+use Rattle.homeo_round.specs.PlusDeltas.{plus_deltas}
+use Rattle.homeo_core.specs.Joined.{gathered}
 use Rattle.homeo_wire.specs.declared.node.Left.{Left}
 use Rattle.homeo_wire.specs.declared.node.Node.{Node}
 use Rattle.homeo_wire.specs.Nodes as n

@@ -1,6 +1,7 @@
 -- The history that stands in the nodes is that of the closed rounds and the sites.
 use Rattle.homeo_history.specs.Key.{definitions as history_definitions}
 use Rattle.homeo_site.specs.Key.{definitions as site_definitions}
+use Rattle.homeo_round.specs.Key.{definitions as round_definitions}
 use Rattle.homeo_core.specs.Key.{definitions as core_definitions}
 use Rattle.homeo_wire.specs.Key.{definitions}
 use Rattle.std.proofs.Common.{inl, inr, ◌≡◌, ℕ, zero, suc, ◌+◌, ◌<◌, ◌≤◌, List, [], ◌∷◌, ◌++◌, map, length, replicate, take, Bool, true, false, cond, eqb, ℤ, pos, ◌+ℤ◌, Some, None, refl, sym, ap, subst, ◌∙◌, arith, slice_index_or}
@@ -17,7 +18,8 @@ use Rattle.homeo_history.specs.Legal.{calls_of, numbers_of}
 use Rattle.homeo_history.specs.Merge.{segment_of}
 use Rattle.homeo_history.proofs.Lists.{All-get, get_index, get_past, get_some, get_lt, get_end, get_left, get_map, get_map_back, map_map}
 use Rattle.homeo_site.specs.SiteState.{SiteState}
-use Rattle.homeo_core.specs.Joined.{BookState, segments_of, plus_deltas, gathered, rounds_of}
+use Rattle.homeo_round.specs.PlusDeltas.{plus_deltas}
+use Rattle.homeo_core.specs.Joined.{BookState, segments_of, gathered, rounds_of}
 use Rattle.homeo_core.specs.Joined as core
 use Rattle.homeo_core.specs.Events.{closing_on}
 use Rattle.homeo_wire.specs.Nodes.{Packet, Left, Journal, folded}
@@ -70,7 +72,7 @@ get_none (x ∷ xs) zero le = absurd (omega (arith, le))
 get_none (x ∷ xs) (suc i) le = get_none xs i (omega (arith, le))
 
 plus_zeros : (values : List ℤ) (n : ℕ) → plus_deltas values (replicate n (pos 0)) ≡ values
-unfolding core_definitions
+unfolding round_definitions
 plus_zeros [] n = refl
 plus_zeros (v ∷ values) zero = refl
 plus_zeros (v ∷ values) (suc n) =

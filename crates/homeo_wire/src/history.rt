@@ -10,9 +10,9 @@ ghost use Rattle.homeo_wire.specs.inner.Standing.{LastFits, CanRead};
 
 use crate::node::{Left, Node};
 use crate::states::copy_values;
-use homeo_core::add_deltas;
 use homeo_history::{Closing, Entry, History, Round, Segment};
 use homeo_meaning::Database;
+use homeo_round::add_deltas;
 use homeo_syntax::{List, Memory};
 use std::alloc::Global;
 

@@ -2,13 +2,13 @@
 
 ghost use Rattle.std.specs.Prelude.{◌≡◌, pos, ◌+ℤ◌, ◌<◌, true, Some, None, map, length, replicate, slice_index_or, slice_set, is_some, cond, All, IfOk, FitsSigned};
 ghost use Rattle.std.specs.Int.{w64};
-ghost use Rattle.homeo_core.specs.Joined.{plus_deltas};
+ghost use Rattle.homeo_round.specs.PlusDeltas.{plus_deltas};
 ghost use Rattle.homeo_wire.specs.Nodes.{has_state, all_of};
 ghost use Rattle.homeo_wire.specs.WireView.{plain_state};
 ghost use Rattle.homeo_wire.specs.inner.Ready.{FoldsFit, IsFold};
 
-use homeo_core::add_deltas;
 use homeo_meaning::Database;
+use homeo_round::add_deltas;
 use homeo_syntax::{List, Memory};
 use std::alloc::Global;
 

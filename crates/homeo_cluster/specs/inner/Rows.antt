@@ -10,7 +10,7 @@ use Rattle.homeo_plan.specs.declared.treaty.Broken.{Broken}
 use Rattle.homeo_history.specs.Answers.{Answer}
 use Rattle.homeo_history.specs.Legal.{IsClientAt}
 use Rattle.homeo_site.specs.SiteState.{SiteState, renewed}
-use Rattle.homeo_core.specs.GatherView.{PreparedValue}
+use Rattle.homeo_core.specs.PreparedView.{PreparedValue}
 use Rattle.homeo_core.specs.Events.{closing_of, next_base}
 use Rattle.homeo_core.specs.Joined.{BookState, segments_of}
 use Rattle.homeo_core.specs.SiteLists.{first_from}

@@ -11,10 +11,11 @@ use Rattle.homeo_history.specs.Follows.{site_or_zero}
 use Rattle.homeo_history.specs.HistoryView.{plain_round}
 use Rattle.homeo_history.specs.declared.history.Round.{Round}
 use Rattle.homeo_site.specs.SiteState.{renewed}
+use Rattle.homeo_round.specs.GatherView.{GatherValue}
 use Rattle.homeo_core.specs.Key.{definitions}
 use Rattle.homeo_core.specs.CoreView.{start_of}
 use Rattle.homeo_core.specs.Events.{closing_on}
-use Rattle.homeo_core.specs.GatherView.{GatherValue, PreparedValue}
+use Rattle.homeo_core.specs.PreparedView.{PreparedValue}
 use Rattle.homeo_core.specs.Joined.{BookState, gathered, segments_of}
 use Rattle.homeo_core.specs.Books.{book_of}
 use Rattle.homeo_core.specs.SiteLists.{states, AreAt}

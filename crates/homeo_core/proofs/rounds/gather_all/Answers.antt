@@ -2,9 +2,10 @@ use Rattle.std.proofs.Common.{◌≡◌, ℕ, suc, ◌+◌, Some, length, take, 
 use Rattle.std.specs.Int.{w64}
 use Rattle.std.specs.Prelude.{slice_get, All}
 use Rattle.homeo_site.specs.SiteView.{SiteValue}
+use Rattle.homeo_round.specs.GatherView.{GatherValue}
+use Rattle.homeo_round.specs.PlusDeltas.{plus_deltas}
 use Rattle.homeo_core.specs.Key.{definitions}
-use Rattle.homeo_core.specs.GatherView.{GatherValue}
-use Rattle.homeo_core.specs.Joined.{plus_deltas, gathered}
+use Rattle.homeo_core.specs.Joined.{gathered}
 use Rattle.homeo_core.specs.SiteLists.{states}
 use Rattle.homeo_core.proofs.GatheredSites.{states_at, states_count, gathered_next, take_whole}
 use Rattle.homeo_core.proofs.rounds.gather_all.Goals as goal

@@ -5,7 +5,7 @@ use Rattle.homeo_history.proofs.Lists.{get_map}
 use Rattle.homeo_site.specs.SiteState.{SiteState, renewed}
 use Rattle.homeo_site.specs.SiteView.{SiteValue}
 use Rattle.homeo_core.specs.Key.{definitions}
-use Rattle.homeo_core.specs.GatherView.{PreparedValue}
+use Rattle.homeo_core.specs.PreparedView.{PreparedValue}
 use Rattle.homeo_core.specs.Joined.{segments_of}
 use Rattle.homeo_core.specs.SiteLists.{states, first_from}
 use Rattle.homeo_core.proofs.GatheredSites.{turn, from_next, from_at, from_all, states_set, states_count, all_set, same_in, length_same}

@@ -12,13 +12,14 @@ use Rattle.homeo_history.specs.Legal.{IsCallAt}
 use Rattle.homeo_history.specs.declared.answer.Path.TheVariants.{Local}
 use Rattle.homeo_site.specs.SiteState.{SiteState, renewed, step_finding, after_local}
 use Rattle.homeo_site.specs.SiteView.{SiteValue}
+use Rattle.homeo_round.specs.Key.{definitions as round_definitions}
+use Rattle.homeo_round.specs.Tried.{IsTried, after_try}
 use Rattle.homeo_core.specs.Key.{definitions}
 use Rattle.homeo_core.specs.CoreView.{start_of, book_after, sites_after, answer_to}
 use Rattle.homeo_core.specs.Events.{BreaksCall, closing_of, next_base, after_closing}
 use Rattle.homeo_core.specs.Joined.{BookState, AreJoined}
 use Rattle.homeo_core.specs.Books.{book_of}
 use Rattle.homeo_core.specs.SiteLists.{states}
-use Rattle.homeo_core.specs.Tried.{IsTried, after_try}
 use Rattle.homeo_core.proofs.CallsMade.{none_where_kept, home_is, home_lt, states_stay, on_err, on_err_map, if_ok}
 use Rattle.homeo_core.proofs.GatheredSites.{states_at, states_set}
 use Rattle.homeo_core.proofs.steps.make_call.Goals as goal
@@ -57,7 +58,7 @@ returns-in_err-prints-clause-unchanged c =
 
 -- ---- where it makes it
 pub returns-in-Made-clause-made : goal.returns-in-Made-clause-made
-unfolding definitions history_definitions site_definitions
+unfolding definitions round_definitions history_definitions site_definitions
 returns-in-Made-clause-made c =
     let w = plain_workload c.args.c.now.value in
     let b : BookState = book_of c.args.closed.now.items c.args.base.now.items in
@@ -97,13 +98,13 @@ is_site c =
     home_lt (plain_workload c.args.c.now.value) (start_of b) b c.args.sites.now c.args.home c.args.call c.requires.accepted c.requires.joined c.requires.at_home
 
 unmoved : (c : In-Refused) → states (slice_set c.args.sites.now c.args.home c.try_call.new.site) ≡ states c.args.sites.now
-unfolding definitions
+unfolding definitions round_definitions
 unmoved c =
     let state : c.try_call.new.site.state ≡ (site c).state = c.in_ok-prints.ensures.state ∙ ap (after_try (plain_workload (site c).work) (site c).state c.args.call) c.in-Refused.is in
     states_stay c.args.sites.now c.args.home c.index-sites-home.result c.try_call.new.site (is_site c) state
 
 breaks : (c : In-Refused) → step_finding (plain_workload c.args.c.now.value) (site c).state c.args.call ≡ Some c.in-Refused.broken
-unfolding definitions
+unfolding definitions round_definitions
 breaks c =
     let tried : IsTried (plain_workload c.args.c.now.value) (site c).state c.args.call c.in_ok-prints.field-0 =
     subst (λ (v : Workload). IsTried (plain_workload v) (site c).state c.args.call c.in_ok-prints.field-0) (c.requires.of c.args.home c.index-sites-home.result (is_site c)) c.in_ok-prints.ensures.tried in

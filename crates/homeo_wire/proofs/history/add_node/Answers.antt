@@ -1,7 +1,7 @@
 use Rattle.std.proofs.Common.{sym, ap, subst, ◌∙◌, FitsSigned}
 use Rattle.std.specs.Int.{w64}
 use Rattle.std.specs.Prelude.{All}
-use Rattle.homeo_core.specs.Joined.{plus_deltas}
+use Rattle.homeo_round.specs.PlusDeltas.{plus_deltas}
 use Rattle.homeo_wire.proofs.Histories.{one_in, one_out}
 use Rattle.homeo_wire.proofs.history.add_node.Goals as goal
 

@@ -20,7 +20,7 @@ use Rattle.homeo_history.proofs.Exists.{client_lt}
 use Rattle.homeo_history.proofs.Lists.{get_lt, get_map}
 use Rattle.homeo_site.specs.SiteState.{SiteState}
 use Rattle.homeo_core.specs.Events.{BreaksCall, closing_of, next_base, after_closing}
-use Rattle.homeo_core.specs.GatherView.{PreparedValue}
+use Rattle.homeo_core.specs.PreparedView.{PreparedValue}
 use Rattle.homeo_core.specs.Joined.{BookState, AreJoined, segments_of}
 use Rattle.homeo_core.specs.Books.{book_of}
 use Rattle.homeo_core.specs.SiteLists.{AreAt, first_from}

@@ -11,8 +11,9 @@ use Rattle.homeo_meaning.specs.Serial.{call_outcome}
 use Rattle.homeo_plan.specs.Planned.{sites_of}
 use Rattle.homeo_history.specs.Follows.{site_or_zero}
 use Rattle.homeo_site.specs.SiteState.{SiteState}
+use Rattle.homeo_round.specs.GatherView.{GatherValue}
 use Rattle.homeo_core.specs.Events.{closing_on}
-use Rattle.homeo_core.specs.GatherView.{GatherValue, PreparedValue}
+use Rattle.homeo_core.specs.PreparedView.{PreparedValue}
 use Rattle.homeo_core.specs.Joined.{AreJoined, gathered}
 use Rattle.homeo_core.proofs.GatheredSites.{length_same}
 use Rattle.homeo_core.proofs.InRounds.{at_round}

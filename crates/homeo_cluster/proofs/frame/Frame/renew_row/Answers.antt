@@ -7,7 +7,7 @@ use Rattle.homeo_history.specs.HistoryView.{plain_answer}
 use Rattle.homeo_history.specs.Legal.{IsClientAt}
 use Rattle.homeo_history.proofs.Lists.{get_map}
 use Rattle.homeo_site.specs.SiteState.{SiteState}
-use Rattle.homeo_core.specs.GatherView.{PreparedValue}
+use Rattle.homeo_core.specs.PreparedView.{PreparedValue}
 use Rattle.homeo_core.specs.Joined.{segments_of}
 use Rattle.homeo_core.specs.SiteLists.{first_from}
 use Rattle.homeo_core.proofs.GatheredSites.{from_next, from_at, same_in}

@@ -1,8 +1,8 @@
-use Rattle.homeo_core.specs.Key.{definitions as core_definitions}
+use Rattle.homeo_round.specs.Key.{definitions as round_definitions}
 use Rattle.homeo_wire.specs.Key.{definitions}
 use Rattle.std.proofs.Common.{◌≡◌, refl, ap, subst, ◌∙◌}
 use Rattle.homeo_syntax.specs.SourceView.{plain_workload}
-use Rattle.homeo_core.specs.Tried.{IsTried, after_try}
+use Rattle.homeo_round.specs.Tried.{IsTried, after_try}
 use Rattle.homeo_core.proofs.CallsMade.{on_err}
 use Rattle.homeo_wire.specs.Nodes as n
 use Rattle.homeo_site.specs.SiteState.{SiteState}
@@ -16,19 +16,19 @@ returns-in_err-prints-clause-unchanged c =
     on_err c.from_residual.result _ (same_view c.args.self.now _ c.in_err-prints.ensures.unchanged refl refl refl refl refl)
 
 pub returns-in_err-push-in-Refused-clause-unchanged : goal.returns-in_err-push-in-Refused-clause-unchanged
-unfolding core_definitions
+unfolding round_definitions
 returns-in_err-push-in-Refused-clause-unchanged c =
     on_err c.from_residual-in_err-push-in-Refused.result _ (same_view c.args.self.now _ (c.in_ok-prints.ensures.state ∙ ap (after_try (plain_workload c.args.self.now.site.work) c.args.self.now.site.state c.args.call) c.in-Refused.is) refl refl refl refl refl)
 
 pub returns-in-Made-clause-reaction : goal.returns-in-Made-clause-reaction
-unfolding core_definitions definitions
+unfolding round_definitions definitions
 returns-in-Made-clause-reaction c =
     let w = plain_workload c.args.self.now.site.work in
     let tried = subst (IsTried w c.args.self.now.site.state c.args.call) c.in-Made.is c.in_ok-prints.ensures.tried in
     made_call w c.args.self.now _ c.args.call c.args.packets.now.items _ c.in-Made.prints.items tried.0 tried.1 (c.in_ok-prints.ensures.state ∙ ap (after_try w c.args.self.now.site.state c.args.call) c.in-Made.is) refl refl refl refl refl refl
 
 pub returns-in_ok-push-in-Refused-clause-reaction : goal.returns-in_ok-push-in-Refused-clause-reaction
-unfolding core_definitions definitions
+unfolding round_definitions definitions
 returns-in_ok-push-in-Refused-clause-reaction c =
     let w = plain_workload c.args.self.now.site.work in
     let old = c.args.self.now.site.state in

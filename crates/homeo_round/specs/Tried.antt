@@ -3,9 +3,9 @@ use Rattle.std.specs.Prelude.{◌≡◌, Some}
 use Rattle.homeo_syntax.specs.Source as s
 use Rattle.homeo_meaning.specs.declared.call.CallId.{CallId}
 use Rattle.homeo_site.specs.SiteState.{SiteState, KeepsCall, step_prints, step_finding, after_local}
-use Rattle.homeo_core.specs.Key.{definitions}
-use Rattle.homeo_core.specs.declared.local.Tried.{Tried}
-use Rattle.homeo_core.specs.declared.local.Tried.TheVariants.{Made, Refused}
+use Rattle.homeo_round.specs.Key.{definitions}
+use Rattle.homeo_round.specs.declared.local.Tried.{Tried}
+use Rattle.homeo_round.specs.declared.local.Tried.TheVariants.{Made, Refused}
 
 -- it was made where it keeps the site's treaty, with the prints of its local step, and else refused with what fails first
 abbrev pub IsTried : s.Workload → SiteState → CallId → Tried → Type 0

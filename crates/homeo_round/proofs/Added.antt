@@ -1,10 +1,25 @@
 -- Deltas added to values one after another.
-use Rattle.homeo_core.specs.Key.{definitions}
+use Rattle.homeo_round.specs.Key.{definitions}
 use Rattle.std.proofs.Common.{◌≡◌, ℕ, zero, suc, ◌<◌, ◌≤◌, min, List, [], ◌∷◌, length, take, get_or, ℤ, pos, ◌+ℤ◌, refl, sym, ap, subst, arith, slice_set, FitsSigned}
 use Rattle.std.specs.Prelude.{All}
 use Rattle.std.specs.Int.{w64}
-use Rattle.homeo_core.specs.Joined.{plus_deltas}
-use Rattle.homeo_core.proofs.Gathered.{plus_length}
+use Rattle.std.proofs.lemmas.Int.{ints}
+use Rattle.homeo_round.specs.PlusDeltas.{plus_deltas}
+
+pub plus_at : (values deltas : List ℤ) (n : ℕ) → length deltas ≤ length values → get_or (plus_deltas values deltas) n (pos 0) ≡ get_or values n (pos 0) +ℤ get_or deltas n (pos 0)
+unfolding definitions
+plus_at [] [] n le = refl
+plus_at [] (d ∷ deltas) n le = absurd (omega (arith, le))
+plus_at (v ∷ values) [] zero le = omega (arith, ints)
+plus_at (v ∷ values) [] (suc n) le = omega (arith, ints)
+plus_at (v ∷ values) (d ∷ deltas) zero le = refl
+plus_at (v ∷ values) (d ∷ deltas) (suc n) le = plus_at values deltas n (omega (arith, le))
+
+pub plus_length : (values deltas : List ℤ) → length (plus_deltas values deltas) ≡ length values
+unfolding definitions
+plus_length [] deltas = refl
+plus_length (v ∷ values) [] = refl
+plus_length (v ∷ values) (d ∷ deltas) = ap suc (plus_length values deltas)
 
 pub plus_none : (values : List ℤ) → values ≡ plus_deltas values []
 unfolding definitions

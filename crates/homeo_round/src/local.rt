@@ -3,7 +3,7 @@
 ghost use Rattle.std.specs.Prelude.{◌≡◌, IfOk, OnOk, OnErr};
 ghost use Rattle.homeo_syntax.specs.SourceView.{plain_workload};
 ghost use Rattle.homeo_history.specs.Legal.{IsCallAt};
-ghost use Rattle.homeo_core.specs.Tried.{IsTried, after_try};
+ghost use Rattle.homeo_round.specs.Tried.{IsTried, after_try};
 
 use homeo_meaning::CallId;
 use homeo_plan::Broken;

@@ -3,13 +3,6 @@ use Rattle.std.specs.Prelude.{ℕ, ℤ, Bool, List}
 use Rattle.homeo_syntax.specs.declared.workload.Workload.{Workload}
 use Rattle.homeo_history.specs.History.{Entry, Closing}
 
--- the round and its base, the base with the deltas of the sites that were added, and how many these are
-pub record GatherValue : Type 0 where
-  pub round : ℕ
-  pub base : List ℤ
-  pub sum : List ℤ
-  pub added : ℕ
-
 -- the round that ends, its base, the call that closes it, and the next base; of each site the segment that was taken, empty where
 -- none was, and whether the site still waits for its start in the next round
 pub record PreparedValue : Type 0 where

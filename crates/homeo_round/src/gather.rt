@@ -2,7 +2,7 @@
 
 ghost use Rattle.std.specs.Prelude.{◌≡◌, ◌+◌, ◌<◌, ◌≤◌, ◌^◌, All, IfOk, FitsSigned};
 ghost use Rattle.std.specs.Int.{w64};
-ghost use Rattle.homeo_core.specs.Joined.{plus_deltas};
+ghost use Rattle.homeo_round.specs.PlusDeltas.{plus_deltas};
 
 use homeo_meaning::Database;
 use homeo_site::Site;
@@ -14,15 +14,15 @@ use std::marker::Model;
 /// round leave (Roy et al., SIGMOD 2015).
 #[derive(Drop)]
 pub struct Gather {
-    pub(crate) round: u64,
-    pub(crate) base: Database,
-    pub(crate) sum: Vec<i64>,
-    pub(crate) added: u64,
+    round: u64,
+    base: Database,
+    sum: Vec<i64>,
+    added: u64,
 }
 
 impl Model for Gather {
     ghost use Rattle.std.specs.Prelude.{◌<◌, ◌^◌};
-    ghost use Rattle.homeo_core.specs.GatherView.{GatherValue};
+    ghost use Rattle.homeo_round.specs.GatherView.{GatherValue};
 
     ghost Value = { GatherValue };
 
@@ -79,6 +79,37 @@ impl Gather {
         } = self;
         List::from_vec(sum)
     }
+
+    /// What was gathered, in its parts. It takes no memory.
+    pub fn into_parts(self) -> Gathered
+        ensures few { result.round < 2 ^ 63 }
+        ensures round { result.round ≡ self.round }
+        ensures base { result.base.items ≡ self.base }
+        ensures sum { result.sum.items ≡ self.sum }
+    {
+        let Gather {
+            round,
+            base,
+            sum,
+            added: _,
+        } = self;
+        Gathered {
+            round,
+            base,
+            sum: List::from_vec(sum),
+        }
+    }
+}
+
+/// A round and its base, and the base with the deltas of the sites that were added.
+#[derive(Drop)]
+pub struct Gathered {
+    /// The number of the round, below 2^63.
+    pub round: u64,
+    /// The base of the round.
+    pub base: Database,
+    /// What the calls of the sites that were added leave of it.
+    pub sum: Database,
 }
 
 /// Adds to each value the delta at its place, if there is one. It takes no memory; each sum fits i64.

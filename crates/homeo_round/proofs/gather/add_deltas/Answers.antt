@@ -1,10 +1,9 @@
 use Rattle.std.proofs.Common.{rules, ◌≡◌, ◌+◌, ◌<◌, ℤ, pos, ◌+ℤ◌, suc, sym, ap, subst, ◌∙◌, take, length, arith, slice_set, get_or, List, FitsSigned, to_z, of_z}
 use Rattle.std.specs.Int.{w64}
 use Rattle.std.proofs.lemmas.Int.{to_z-of_z}
-use Rattle.homeo_core.specs.Joined.{plus_deltas}
-use Rattle.homeo_core.proofs.Added.{plus_next, fits_here}
-use Rattle.homeo_core.proofs.Gathered.{plus_length}
-use Rattle.homeo_core.proofs.gather.add_deltas.Goals as goal
+use Rattle.homeo_round.specs.PlusDeltas.{plus_deltas}
+use Rattle.homeo_round.proofs.Added.{plus_length, plus_next, fits_here}
+use Rattle.homeo_round.proofs.gather.add_deltas.Goals as goal
 
 pub loop-i-preserved : goal.loop-i-preserved
 loop-i-preserved c =

@@ -1,0 +1,4 @@
+pub mod GatherView
+pub mod Key
+pub mod PlusDeltas
+pub mod Tried
