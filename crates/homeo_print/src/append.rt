@@ -80,6 +80,5 @@ pub fn push_heading(out: &mut Vec<u8>, word: &[u8], number: u64) -> Result<(), M
 {
     push_bytes(out, word)?;
     push_number(out, number)?;
-    push_bytes(out, b"\n")?;
-    Ok(())
+    push_bytes(out, b"\n")
 }

@@ -47,8 +47,7 @@ fn push_arguments(out: &mut Vec<u8>, args: &[i64]) -> Result<(), Memory>
         [] => Ok(()),
         [first, more @ ..] => {
             push_signed(out, *first)?;
-            push_more_arguments(out, more)?;
-            Ok(())
+            push_more_arguments(out, more)
         }
     }
 }
@@ -65,8 +64,7 @@ pub fn push_call(out: &mut Vec<u8>, w: &Workload, name: Ident, args: &[i64]) -> 
     push_bytes(out, name_of(w, name))?;
     push_bytes(out, b"(")?;
     push_arguments(out, args)?;
-    push_bytes(out, b")")?;
-    Ok(())
+    push_bytes(out, b")")
 }
 
 fn transaction_at(w: &Workload, number: u32) -> Option<&Transaction>

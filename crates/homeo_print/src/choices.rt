@@ -15,8 +15,7 @@ fn push_pick(out: &mut Vec<u8>, row: &JointRow) -> Result<(), Memory>
 {
     push_bytes(out, b"pick")?;
     push_numbers(out, row.picks.as_slice())?;
-    push_bytes(out, b"\n")?;
-    Ok(())
+    push_bytes(out, b"\n")
 }
 
 fn push_picks(out: &mut Vec<u8>, rows: &[JointRow]) -> Result<(), Memory>

@@ -15,8 +15,7 @@ fn push_setting(out: &mut Pieces, setting: &FieldValue) -> Result<(), Memory>
 {
     out.name(setting.field)?;
     out.mark(Mark::Equal)?;
-    push_expr(out, &setting.value, Position::Alone)?;
-    Ok(())
+    push_expr(out, &setting.value, Position::Alone)
 }
 
 fn push_settings(out: &mut Pieces, settings: &[FieldValue]) -> Result<(), Memory>
@@ -42,8 +41,7 @@ fn push_rows(out: &mut Pieces, row: Ident, relation: Ident, test: &Cond) -> Resu
 {
     out.name(row)?;
     push_chosen_of(out, relation)?;
-    push_cond(out, test)?;
-    Ok(())
+    push_cond(out, test)
 }
 
 #[cycle(commands)]
@@ -51,15 +49,11 @@ fn push_command(out: &mut Pieces, c: &Command) -> Result<(), Memory>
     ensures pushed { OnOk result (out.new ≡ out.old ++ command_kinds (plain_command c.now)) }
 {
     match c {
-        Command::Skip => {
-            out.mark(Mark::Skip)?;
-            Ok(())
-        }
+        Command::Skip => out.mark(Mark::Skip),
         Command::Assign { target, value } => {
             out.name(*target)?;
             out.mark(Mark::Assign)?;
-            push_expr(out, value, Position::Alone)?;
-            Ok(())
+            push_expr(out, value, Position::Alone)
         }
         Command::Write { object, value } => {
             out.mark(Mark::Write)?;
@@ -67,15 +61,13 @@ fn push_command(out: &mut Pieces, c: &Command) -> Result<(), Memory>
             out.name(*object)?;
             out.mark(Mark::Equal)?;
             push_expr(out, value, Position::Alone)?;
-            out.mark(Mark::Close)?;
-            Ok(())
+            out.mark(Mark::Close)
         }
         Command::Print { value } => {
             out.mark(Mark::Print)?;
             out.mark(Mark::Open)?;
             push_expr(out, value, Position::Alone)?;
-            out.mark(Mark::Close)?;
-            Ok(())
+            out.mark(Mark::Close)
         }
         Command::If { test, yes, no } => {
             out.mark(Mark::If)?;
@@ -83,14 +75,12 @@ fn push_command(out: &mut Pieces, c: &Command) -> Result<(), Memory>
             out.mark(Mark::Then)?;
             push_command(out, yes)?;
             out.mark(Mark::Else)?;
-            push_command(out, no)?;
-            Ok(())
+            push_command(out, no)
         }
         Command::Block { commands } => {
             out.mark(Mark::OpenBrace)?;
             push_commands(out, commands.as_slice())?;
-            out.mark(Mark::CloseBrace)?;
-            Ok(())
+            out.mark(Mark::CloseBrace)
         }
         Command::SetField {
             relation,
@@ -105,14 +95,12 @@ fn push_command(out: &mut Pieces, c: &Command) -> Result<(), Memory>
             out.mark(Mark::Dot)?;
             out.name(*field)?;
             out.mark(Mark::Assign)?;
-            push_expr(out, value, Position::Alone)?;
-            Ok(())
+            push_expr(out, value, Position::Alone)
         }
         Command::SetRow { row, field, value } => {
             push_row_field(out, *row, *field)?;
             out.mark(Mark::Assign)?;
-            push_expr(out, value, Position::Alone)?;
-            Ok(())
+            push_expr(out, value, Position::Alone)
         }
         Command::Foreach {
             row,
@@ -124,8 +112,7 @@ fn push_command(out: &mut Pieces, c: &Command) -> Result<(), Memory>
             push_rows(out, *row, *relation, test)?;
             out.mark(Mark::OpenBrace)?;
             push_commands(out, body.as_slice())?;
-            out.mark(Mark::CloseBrace)?;
-            Ok(())
+            out.mark(Mark::CloseBrace)
         }
         Command::Insert {
             relation,
@@ -138,8 +125,7 @@ fn push_command(out: &mut Pieces, c: &Command) -> Result<(), Memory>
             push_settings(out, fields.as_slice())?;
             out.mark(Mark::Close)?;
             out.mark(Mark::Into)?;
-            out.name(*into)?;
-            Ok(())
+            out.name(*into)
         }
         Command::Delete {
             row,
@@ -147,8 +133,7 @@ fn push_command(out: &mut Pieces, c: &Command) -> Result<(), Memory>
             test,
         } => {
             out.mark(Mark::Delete)?;
-            push_rows(out, *row, *relation, test)?;
-            Ok(())
+            push_rows(out, *row, *relation, test)
         }
         Command::Update {
             row,
@@ -162,13 +147,9 @@ fn push_command(out: &mut Pieces, c: &Command) -> Result<(), Memory>
             out.mark(Mark::Set)?;
             out.name(*field)?;
             out.mark(Mark::Equal)?;
-            push_expr(out, value, Position::Alone)?;
-            Ok(())
+            push_expr(out, value, Position::Alone)
         }
-        Command::Abort => {
-            out.mark(Mark::Abort)?;
-            Ok(())
-        }
+        Command::Abort => out.mark(Mark::Abort),
     }
 }
 

@@ -18,8 +18,7 @@ use std::alloc::Global;
 fn push_number(out: &mut Pieces, n: Number) -> Result<(), Memory>
     ensures pushed { OnOk result (out.new ≡ out.old ++ number_of n) }
 {
-    out.value(n.value)?;
-    Ok(())
+    out.value(n.value)
 }
 
 /// Puts numbers behind the tokens, with a comma between each two.
@@ -45,8 +44,7 @@ fn push_range(out: &mut Pieces, lo: Number, hi: Number) -> Result<(), Memory>
 {
     push_number(out, lo)?;
     out.mark(Mark::Dots)?;
-    push_number(out, hi)?;
-    Ok(())
+    push_number(out, hi)
 }
 
 fn push_decl(out: &mut Pieces, d: &RangeDecl) -> Result<(), Memory>
@@ -54,8 +52,7 @@ fn push_decl(out: &mut Pieces, d: &RangeDecl) -> Result<(), Memory>
 {
     out.name(d.name)?;
     out.mark(Mark::In)?;
-    push_range(out, d.lo, d.hi)?;
-    Ok(())
+    push_range(out, d.lo, d.hi)
 }
 
 /// Puts fields or parameters behind the tokens, with a comma between each two.
@@ -83,8 +80,7 @@ fn push_object(out: &mut Pieces, d: &ObjectDecl) -> Result<(), Memory>
     out.mark(Mark::In)?;
     push_range(out, d.lo, d.hi)?;
     out.mark(Mark::Equal)?;
-    push_number(out, d.start)?;
-    Ok(())
+    push_number(out, d.start)
 }
 
 fn push_objects(out: &mut Pieces, ds: &[ObjectDecl]) -> Result<(), Memory>
@@ -106,8 +102,7 @@ fn push_relation(out: &mut Pieces, r: &RelationDecl) -> Result<(), Memory>
     out.mark(Mark::CloseBracket)?;
     out.mark(Mark::Open)?;
     push_decls(out, r.fields.as_slice())?;
-    out.mark(Mark::Close)?;
-    Ok(())
+    out.mark(Mark::Close)
 }
 
 fn push_relations(out: &mut Pieces, rs: &[RelationDecl]) -> Result<(), Memory>
@@ -130,8 +125,7 @@ fn push_transaction(out: &mut Pieces, t: &Transaction) -> Result<(), Memory>
     out.mark(Mark::Close)?;
     out.mark(Mark::OpenBrace)?;
     push_commands(out, t.body.as_slice())?;
-    out.mark(Mark::CloseBrace)?;
-    Ok(())
+    out.mark(Mark::CloseBrace)
 }
 
 fn push_transactions(out: &mut Pieces, ts: &[Transaction]) -> Result<(), Memory>
@@ -150,8 +144,7 @@ fn push_call(out: &mut Pieces, c: &Call) -> Result<(), Memory>
     out.name(c.name)?;
     out.mark(Mark::Open)?;
     push_numbers(out, c.args.as_slice())?;
-    out.mark(Mark::Close)?;
-    Ok(())
+    out.mark(Mark::Close)
 }
 
 /// Puts calls behind the tokens, with a semicolon between each two.
@@ -181,8 +174,7 @@ fn push_client(out: &mut Pieces, c: &Client) -> Result<(), Memory>
     push_number(out, c.site)?;
     out.mark(Mark::OpenBrace)?;
     push_calls(out, c.calls.as_slice())?;
-    out.mark(Mark::CloseBrace)?;
-    Ok(())
+    out.mark(Mark::CloseBrace)
 }
 
 fn push_clients(out: &mut Pieces, cs: &[Client]) -> Result<(), Memory>
@@ -212,8 +204,7 @@ fn push_schedule(out: &mut Pieces, schedule: &Option<List<Ident>>) -> Result<(),
     match schedule {
         Some(xs) => {
             out.mark(Mark::Schedule)?;
-            push_names(out, xs.as_slice())?;
-            Ok(())
+            push_names(out, xs.as_slice())
         }
         None => Ok(()),
     }
@@ -239,8 +230,7 @@ fn push_head(out: &mut Pieces, version: u8, sites: Number, weights: &[Number]) -
     out.value(version as i64)?;
     out.mark(Mark::Sites)?;
     push_number(out, sites)?;
-    push_weights(out, weights)?;
-    Ok(())
+    push_weights(out, weights)
 }
 
 /// The tokens of a workload, in order.

@@ -19,14 +19,10 @@ pub(crate) fn push_temp(out: &mut Vec<u8>, w: &Workload, t: Temp) -> Result<(), 
     ensures { OnOk result (out.new.items ≡ out.old.items ++ temp_text (plain_workload w.now) t) }
 {
     match t {
-        Temp::Named(name) => {
-            push_bytes(out, name_of(w, Ident { name, offset: 0 }))?;
-            Ok(())
-        }
+        Temp::Named(name) => push_bytes(out, name_of(w, Ident { name, offset: 0 })),
         Temp::Fresh(number) => {
             push_bytes(out, b"$")?;
-            push_number(out, number as u64)?;
-            Ok(())
+            push_number(out, number as u64)
         }
     }
 }
@@ -43,21 +39,16 @@ pub(crate) fn push_split_name(
     ensures { OnOk result (out.new.items ≡ out.old.items ++ split_name_text (plain_workload w.now) x) }
 {
     match x {
-        SplitName::Whole(object) => {
-            push_bytes(out, objects.get(object as usize))?;
-            Ok(())
-        }
+        SplitName::Whole(object) => push_bytes(out, objects.get(object as usize)),
         SplitName::Base(object) => {
             push_bytes(out, b"base(")?;
             push_bytes(out, objects.get(object as usize))?;
-            push_bytes(out, b")")?;
-            Ok(())
+            push_bytes(out, b")")
         }
         SplitName::Delta { object, site } => {
             push_bytes(out, objects.get(object as usize))?;
             push_bytes(out, b"@")?;
-            push_number(out, site as u64)?;
-            Ok(())
+            push_number(out, site as u64)
         }
     }
 }
@@ -89,52 +80,31 @@ pub(crate) fn push_expr(
         ≡ out.old.items ++ expr_text_in (plain_workload w.now) position (plain_lexpr e.now)) }
 {
     match e {
-        LExpr::Literal(n) => {
-            push_signed(out, *n)?;
-            Ok(())
-        }
-        LExpr::Temp(t) => {
-            push_temp(out, w, *t)?;
-            Ok(())
-        }
-        LExpr::Read(x) => {
-            push_split_name(out, w, objects, *x)?;
-            Ok(())
-        }
+        LExpr::Literal(n) => push_signed(out, *n),
+        LExpr::Temp(t) => push_temp(out, w, *t),
+        LExpr::Read(x) => push_split_name(out, w, objects, *x),
         LExpr::Sum(es) => match position {
-            Position::Alone => {
-                push_sum(out, w, objects, es.as_slice())?;
-                Ok(())
-            }
+            Position::Alone => push_sum(out, w, objects, es.as_slice()),
             Position::AsTerm | Position::AsFactor | Position::Signed => {
                 push_bytes(out, b"(")?;
                 push_sum(out, w, objects, es.as_slice())?;
-                push_bytes(out, b")")?;
-                Ok(())
+                push_bytes(out, b")")
             }
         },
         LExpr::Product(es) => match position {
-            Position::Alone | Position::AsTerm | Position::Signed => {
-                push_product(out, w, objects, es.as_slice())?;
-                Ok(())
-            }
+            Position::Alone | Position::AsTerm | Position::Signed => push_product(out, w, objects, es.as_slice()),
             Position::AsFactor => {
                 push_bytes(out, b"(")?;
                 push_product(out, w, objects, es.as_slice())?;
-                push_bytes(out, b")")?;
-                Ok(())
+                push_bytes(out, b")")
             }
         },
         LExpr::Neg(inner) => match position {
             Position::Alone | Position::AsTerm | Position::AsFactor => {
                 push_bytes(out, b"-")?;
-                push_expr(out, w, objects, inner, Position::AsFactor)?;
-                Ok(())
+                push_expr(out, w, objects, inner, Position::AsFactor)
             }
-            Position::Signed => {
-                push_expr(out, w, objects, inner, Position::AsTerm)?;
-                Ok(())
-            }
+            Position::Signed => push_expr(out, w, objects, inner, Position::AsTerm),
         },
     }
 }
@@ -213,21 +183,16 @@ fn push_test(
         ≡ out.old.items ++ test_text (plain_workload w.now) (plain_ltest t.now)) }
 {
     match t {
-        LTest::True => {
-            push_bytes(out, b"true")?;
-            Ok(())
-        }
+        LTest::True => push_bytes(out, b"true"),
         LTest::Not(c) => {
             push_bytes(out, b"not (")?;
             push_cond(out, w, objects, c)?;
-            push_bytes(out, b")")?;
-            Ok(())
+            push_bytes(out, b")")
         }
         LTest::Compare { op, left, right } => {
             push_expr(out, w, objects, left, Position::Alone)?;
             push_bytes(out, comparison_text(*op))?;
-            push_expr(out, w, objects, right, Position::Alone)?;
-            Ok(())
+            push_expr(out, w, objects, right, Position::Alone)
         }
     }
 }

@@ -55,8 +55,7 @@ pub(crate) fn push_row_field(out: &mut Pieces, row: Ident, field: Ident) -> Resu
 {
     out.name(row)?;
     out.mark(Mark::Dot)?;
-    out.name(field)?;
-    Ok(())
+    out.name(field)
 }
 
 /// Puts `of relation when` behind the tokens.
@@ -66,8 +65,7 @@ pub(crate) fn push_chosen_of(out: &mut Pieces, relation: Ident) -> Result<(), Me
 {
     out.mark(Mark::Of)?;
     out.name(relation)?;
-    out.mark(Mark::When)?;
-    Ok(())
+    out.mark(Mark::When)
 }
 
 /// Puts an expression that stands at a position behind the tokens.
@@ -76,55 +74,36 @@ pub(crate) fn push_expr(out: &mut Pieces, e: &Expr, position: Position) -> Resul
     ensures pushed { OnOk result (out.new ≡ out.old ++ expr_in position (plain_expr e.now)) }
 {
     match e {
-        Expr::Literal(n) => {
-            out.value(*n)?;
-            Ok(())
-        }
-        Expr::Name(x) => {
-            out.name(*x)?;
-            Ok(())
-        }
+        Expr::Literal(n) => out.value(*n),
+        Expr::Name(x) => out.name(*x),
         Expr::Read(x) => {
             out.mark(Mark::Read)?;
             out.mark(Mark::Open)?;
             out.name(*x)?;
-            out.mark(Mark::Close)?;
-            Ok(())
+            out.mark(Mark::Close)
         }
         Expr::Sum(es) => match position {
-            Position::Alone => {
-                push_sum(out, es.as_slice())?;
-                Ok(())
-            }
+            Position::Alone => push_sum(out, es.as_slice()),
             Position::AsTerm | Position::AsFactor | Position::Signed => {
                 out.mark(Mark::Open)?;
                 push_sum(out, es.as_slice())?;
-                out.mark(Mark::Close)?;
-                Ok(())
+                out.mark(Mark::Close)
             }
         },
         Expr::Product(es) => match position {
-            Position::Alone | Position::AsTerm | Position::Signed => {
-                push_product(out, es.as_slice())?;
-                Ok(())
-            }
+            Position::Alone | Position::AsTerm | Position::Signed => push_product(out, es.as_slice()),
             Position::AsFactor => {
                 out.mark(Mark::Open)?;
                 push_product(out, es.as_slice())?;
-                out.mark(Mark::Close)?;
-                Ok(())
+                out.mark(Mark::Close)
             }
         },
         Expr::Neg(inner) => match position {
             Position::Alone | Position::AsTerm | Position::AsFactor => {
                 out.mark(Mark::Minus)?;
-                push_expr(out, inner, Position::AsFactor)?;
-                Ok(())
+                push_expr(out, inner, Position::AsFactor)
             }
-            Position::Signed => {
-                push_expr(out, inner, Position::AsTerm)?;
-                Ok(())
-            }
+            Position::Signed => push_expr(out, inner, Position::AsTerm),
         },
         Expr::Field {
             relation,
@@ -136,13 +115,9 @@ pub(crate) fn push_expr(out: &mut Pieces, e: &Expr, position: Position) -> Resul
             push_expr(out, index, Position::Alone)?;
             out.mark(Mark::CloseBracket)?;
             out.mark(Mark::Dot)?;
-            out.name(*field)?;
-            Ok(())
+            out.name(*field)
         }
-        Expr::Row { row, field } => {
-            push_row_field(out, *row, *field)?;
-            Ok(())
-        }
+        Expr::Row { row, field } => push_row_field(out, *row, *field),
         Expr::Count {
             row,
             relation,
@@ -153,8 +128,7 @@ pub(crate) fn push_expr(out: &mut Pieces, e: &Expr, position: Position) -> Resul
             out.name(*row)?;
             push_chosen_of(out, *relation)?;
             push_cond(out, test)?;
-            out.mark(Mark::Close)?;
-            Ok(())
+            out.mark(Mark::Close)
         }
         Expr::Total {
             row,
@@ -167,8 +141,7 @@ pub(crate) fn push_expr(out: &mut Pieces, e: &Expr, position: Position) -> Resul
             push_row_field(out, *row, *field)?;
             push_chosen_of(out, *relation)?;
             push_cond(out, test)?;
-            out.mark(Mark::Close)?;
-            Ok(())
+            out.mark(Mark::Close)
         }
     }
 }
@@ -212,22 +185,17 @@ fn push_test(out: &mut Pieces, t: &Test) -> Result<(), Memory>
     ensures pushed { OnOk result (out.new ≡ out.old ++ test_kinds (plain_test t.now)) }
 {
     match t {
-        Test::True => {
-            out.mark(Mark::True)?;
-            Ok(())
-        }
+        Test::True => out.mark(Mark::True),
         Test::Not(c) => {
             out.mark(Mark::Not)?;
             out.mark(Mark::Open)?;
             push_cond(out, c)?;
-            out.mark(Mark::Close)?;
-            Ok(())
+            out.mark(Mark::Close)
         }
         Test::Compare { op, left, right } => {
             push_expr(out, left, Position::Alone)?;
             out.mark(comparison_mark(*op))?;
-            push_expr(out, right, Position::Alone)?;
-            Ok(())
+            push_expr(out, right, Position::Alone)
         }
     }
 }

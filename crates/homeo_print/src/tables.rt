@@ -33,22 +33,19 @@ fn push_command(
         LCommand::Assign { target, value } => {
             push_temp(out, w, *target)?;
             push_bytes(out, b" := ")?;
-            push_expr(out, w, objects, value, Position::Alone)?;
-            Ok(())
+            push_expr(out, w, objects, value, Position::Alone)
         }
         LCommand::Write { target, value } => {
             push_bytes(out, b"write(")?;
             push_split_name(out, w, objects, *target)?;
             push_bytes(out, b" = ")?;
             push_expr(out, w, objects, value, Position::Alone)?;
-            push_bytes(out, b")")?;
-            Ok(())
+            push_bytes(out, b")")
         }
         LCommand::Print { value } => {
             push_bytes(out, b"print(")?;
             push_expr(out, w, objects, value, Position::Alone)?;
-            push_bytes(out, b")")?;
-            Ok(())
+            push_bytes(out, b")")
         }
         LCommand::Skip | LCommand::Seq { .. } | LCommand::If { .. } => Ok(()),
     }
@@ -89,13 +86,11 @@ fn push_residual(
         ≡ out.old.items ++ residual_text (plain_workload w.now) (low_commands (map plain_lcommand commands.now))) }
 {
     if commands.is_empty() {
-        push_bytes(out, b"{}")?;
-        Ok(())
+        push_bytes(out, b"{}")
     } else {
         push_bytes(out, b"{ ")?;
         push_commands(out, w, objects, commands)?;
-        push_bytes(out, b" }")?;
-        Ok(())
+        push_bytes(out, b" }")
     }
 }
 
@@ -121,8 +116,7 @@ pub fn print_row(
     push_cond(out, w, objects, &row.formula)?;
     push_bytes(out, b"\ndo ")?;
     push_residual(out, w, objects, row.residual.as_slice())?;
-    push_bytes(out, b"\n")?;
-    Ok(())
+    push_bytes(out, b"\n")
 }
 
 /// Appends rows, numbered from 0.
@@ -167,6 +161,5 @@ pub fn print_table(
     push_bytes(out, b" at ")?;
     push_number(out, call.site as u64)?;
     push_heading(out, b" rows ", rows.len() as u64)?;
-    push_rows(out, w, objects, rows)?;
-    Ok(())
+    push_rows(out, w, objects, rows)
 }

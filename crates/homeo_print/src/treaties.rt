@@ -78,8 +78,7 @@ fn push_clause(
     push_bounds(out, bounds)?;
     push_bytes(out, b" form")?;
     push_terms(out, w, objects, clause.terms.as_slice())?;
-    push_bytes(out, b"\n")?;
-    Ok(())
+    push_bytes(out, b"\n")
 }
 
 /// Appends clauses, numbered from 0, each with its bounds.
@@ -123,8 +122,7 @@ fn push_freeze(
     push_integer(out, number)?;
     push_bytes(out, b" ")?;
     push_delta(out, w, objects, delta)?;
-    push_bytes(out, b"\n")?;
-    Ok(())
+    push_bytes(out, b"\n")
 }
 
 /// Appends freezes, numbered from `first` on.
@@ -168,6 +166,5 @@ pub fn print_template(
     push_heading(out, b"clauses ", clauses.len() as u64)?;
     push_clauses(out, w, objects, clauses, c)?;
     push_heading(out, b"freezes ", freezes.len() as u64)?;
-    push_freezes(out, w, objects, clauses.len(), freezes)?;
-    Ok(())
+    push_freezes(out, w, objects, clauses.len(), freezes)
 }
