@@ -8,6 +8,7 @@ ghost use Rattle.homeo_meaning.specs.Serial.{arguments, numbered, call_of};
 ghost use Rattle.homeo_history.specs.HistoryView.{plain_entry};
 ghost use Rattle.homeo_report.specs.Report.{client_text, made_text, entry_line};
 
+use homeo_context::argument_values;
 use homeo_history::Entry;
 use homeo_meaning::CallId;
 use homeo_print::{name_of, push_bytes, push_call, push_number, push_numbers};
@@ -58,14 +59,11 @@ fn call_of(w: &Workload, id: CallId) -> Option<&Call>
 }
 
 /// The arguments of a call.
+#[tactic(auto, unfolding(homeo_syntax::specs::Key::definitions))]
 fn arguments_of(alloc: Global, call: &Call) -> Result<Vec<i64>, Memory>
     ensures { IfOk result (λ args. args.items ≡ arguments (plain_call call.now)) }
 {
-    let mut args = Vec::new(alloc);
-    for argument in call.args.as_slice() {
-        args.push(argument.value)?;
-    }
-    Ok(args)
+    argument_values(alloc, call.args.as_slice())
 }
 
 /// Appends a client's call, and nothing where there is no such call.
@@ -75,8 +73,7 @@ fn push_made(out: &mut Vec<u8>, w: &Workload, id: CallId) -> Result<(), Memory>
     match call_of(w, id) {
         Some(call) => {
             let args = arguments_of(*out.allocator(), call)?;
-            push_call(out, w, call.name, args.as_slice())?;
-            Ok(())
+            push_call(out, w, call.name, args.as_slice())
         }
         None => Ok(()),
     }
@@ -94,6 +91,5 @@ pub(crate) fn push_entry(out: &mut Vec<u8>, w: &Workload, entry: &Entry) -> Resu
     push_made(out, w, entry.call)?;
     push_bytes(out, b":")?;
     push_numbers(out, entry.prints.as_slice())?;
-    push_bytes(out, b"\n")?;
-    Ok(())
+    push_bytes(out, b"\n")
 }

@@ -22,8 +22,7 @@ fn push_line(
     push_bytes(out, names.get(object))?;
     push_bytes(out, b" = ")?;
     push_signed(out, values[object])?;
-    push_bytes(out, b"\n")?;
-    Ok(())
+    push_bytes(out, b"\n")
 }
 
 /// Appends the lines of all objects.

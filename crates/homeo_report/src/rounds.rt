@@ -18,6 +18,7 @@ use homeo_syntax::{Memory, Workload};
 use std::alloc::Global;
 
 /// Appends the entries of a site, behind its number.
+#[tactic(auto, using(crate::proofs::RoundLines::round_steps), unfolding(crate::specs::Key::definitions))]
 fn push_segment(out: &mut Vec<u8>, w: &Workload, site: u64, entries: &[Entry]) -> Result<(), Memory>
     ensures { OnOk result (out.new.items
         ≡ out.old.items
@@ -53,8 +54,7 @@ fn push_closing_heading(out: &mut Vec<u8>, site: u32, broken: Broken) -> Result<
     push_integer(out, broken.sum)?;
     push_bytes(out, b" bound ")?;
     push_integer(out, broken.bound)?;
-    push_bytes(out, b"\n")?;
-    Ok(())
+    push_bytes(out, b"\n")
 }
 
 fn push_closing(out: &mut Vec<u8>, w: &Workload, closing: &Option<Closing>) -> Result<(), Memory>
@@ -65,8 +65,7 @@ fn push_closing(out: &mut Vec<u8>, w: &Workload, closing: &Option<Closing>) -> R
     match closing {
         Some(closing) => {
             push_closing_heading(out, closing.site, closing.broken)?;
-            push_entry(out, w, &closing.entry)?;
-            Ok(())
+            push_entry(out, w, &closing.entry)
         }
         None => Ok(()),
     }
@@ -78,8 +77,7 @@ fn push_round(out: &mut Vec<u8>, w: &Workload, number: u64, round: &Round) -> Re
 {
     push_heading(out, b"round ", number)?;
     push_segments(out, w, round.segments.as_slice())?;
-    push_closing(out, w, &round.closing)?;
-    Ok(())
+    push_closing(out, w, &round.closing)
 }
 
 /// How many entries the segments have.
@@ -114,8 +112,7 @@ fn push_totals(out: &mut Vec<u8>, rounds: u64, calls: u64) -> Result<(), Memory>
     push_number(out, rounds)?;
     push_bytes(out, b" calls ")?;
     push_number(out, calls)?;
-    push_bytes(out, b"\n")?;
-    Ok(())
+    push_bytes(out, b"\n")
 }
 
 /// Appends all rounds, and gives the number of their calls.
