@@ -216,8 +216,8 @@ pub fn serial(
     ensures within { IsWithin (schema_of (plain_workload w.now)) base.new.items }
     ensures unchanged { OnErr result (base.new ≡ base.old) }
 {
-    let declared = Declarations::of(alloc, w)?;
     let mut database = List::from_vec(copied(alloc, base.as_slice())?);
+    let declared = Declarations::of(alloc, w)?;
     let logs = run_each(alloc, w, &declared, calls, &mut database)?;
     *base = database;
     Ok(logs)
