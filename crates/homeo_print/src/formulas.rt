@@ -92,7 +92,12 @@ pub(crate) fn push_expr(
             }
         },
         LExpr::Product(es) => match position {
-            Position::Alone | Position::AsTerm | Position::Signed => push_product(out, w, objects, es.as_slice()),
+            Position::Alone | Position::AsTerm | Position::Signed => push_product(
+                out,
+                w,
+                objects,
+                es.as_slice(),
+            ),
             Position::AsFactor => {
                 push_bytes(out, b"(")?;
                 push_product(out, w, objects, es.as_slice())?;

@@ -91,7 +91,10 @@ pub(crate) fn push_expr(out: &mut Pieces, e: &Expr, position: Position) -> Resul
             }
         },
         Expr::Product(es) => match position {
-            Position::Alone | Position::AsTerm | Position::Signed => push_product(out, es.as_slice()),
+            Position::Alone | Position::AsTerm | Position::Signed => push_product(
+                out,
+                es.as_slice(),
+            ),
             Position::AsFactor => {
                 out.mark(Mark::Open)?;
                 push_product(out, es.as_slice())?;
