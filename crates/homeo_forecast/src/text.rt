@@ -40,8 +40,7 @@ fn push_kept(out: &mut Vec<u8>, kept: u64, count: u64) -> Result<(), Memory>
     push_number(out, kept)?;
     push_bytes(out, b" of ")?;
     push_number(out, count)?;
-    push_bytes(out, b"\n")?;
-    Ok(())
+    push_bytes(out, b"\n")
 }
 
 fn push_clause(out: &mut Vec<u8>, clause: u64, bounds: &[i128]) -> Result<(), Memory>
@@ -50,8 +49,7 @@ fn push_clause(out: &mut Vec<u8>, clause: u64, bounds: &[i128]) -> Result<(), Me
     push_number(out, clause)?;
     push_bytes(out, b" bounds")?;
     push_numbers(out, bounds)?;
-    push_bytes(out, b"\n")?;
-    Ok(())
+    push_bytes(out, b"\n")
 }
 
 fn push_config(out: &mut Vec<u8>, config: &Config) -> Result<(), Memory>
@@ -84,8 +82,7 @@ fn push_caller(out: &mut Vec<u8>, w: &Workload, call: CallId) -> Result<(), Memo
 {
     push_bytes(out, caller_of(w, call))?;
     push_bytes(out, b" ")?;
-    push_number(out, call.seq)?;
-    Ok(())
+    push_number(out, call.seq)
 }
 
 fn push_delta(
@@ -99,8 +96,7 @@ fn push_delta(
 {
     push_bytes(out, objects.get(delta.object as usize))?;
     push_bytes(out, b"@")?;
-    push_number(out, u64::from(delta.site))?;
-    Ok(())
+    push_number(out, u64::from(delta.site))
 }
 
 fn push_cause(
@@ -123,8 +119,7 @@ fn push_cause(
             push_bytes(out, b" peaks")?;
             push_numbers(out, peaks.as_slice())?;
             push_bytes(out, b" slack ")?;
-            push_integer(out, *slack)?;
-            Ok(())
+            push_integer(out, *slack)
         }
         Stop::Frozen {
             freeze,
@@ -136,8 +131,7 @@ fn push_cause(
             push_bytes(out, b" ")?;
             push_delta(out, w, objects, *delta)?;
             push_bytes(out, b" value ")?;
-            push_signed(out, *value)?;
-            Ok(())
+            push_signed(out, *value)
         }
     }
 }
@@ -169,8 +163,7 @@ fn push_stop(
             push_next(out, w, next)?;
             push_bytes(out, b" ")?;
             push_cause(out, w, objects, stop)?;
-            push_bytes(out, b"\n")?;
-            Ok(())
+            push_bytes(out, b"\n")
         }
         None => push_bytes(out, b"stop none\n"),
     }
