@@ -40,9 +40,8 @@ use Rattle.homeo_follow.proofs.Standing.{stands_at_base}
 use Rattle.homeo_follow.proofs.Templated.{by_objects}
 use Rattle.homeo_template.specs.Places.{set_at}
 use Rattle.homeo_template.proofs.Appending.{atoms_push}
-use Rattle.homeo_template.proofs.Ordered.{none-in_order, put-in_order}
 use Rattle.homeo_template.proofs.Slacks.{small-slack}
-use Rattle.homeo_form.proofs.DeltasInOrder.{same_deltas}
+use Rattle.homeo_plan.proofs.DeltaLists.{same_deltas, none_in_order, in_order_puts}
 use Rattle.homeo_build.specs.Key.{definitions}
 use Rattle.homeo_build.specs.Forms.{IsCallForm, HaveForms, AreForms}
 use Rattle.homeo_build.specs.declared.frozen.FrozenObjects.{FrozenObjects}
@@ -183,7 +182,7 @@ module _ (w : s.Workload) (base : List ℤ) (accepted : IsAccepted w) (within : 
   unfolding plan_definitions
   in_order =
       let mixed : List (List Delta) = map (λ (a : Linear). a.mixed) (atoms_of_sets (map (atoms_of (sites_of w) (values_of base)) (planned w))) in
-      put-in_order (map (needs_of (sites_of w) (values_of base)) (planned w)) (put_all mixed []) (put-in_order mixed [] none-in_order)
+      in_order_puts (map (needs_of (sites_of w) (values_of base)) (planned w)) (put_all mixed []) (in_order_puts mixed [] none_in_order)
 
   pub freezes_in_order : (t : Template) → t ≡ template_at w base → AreInOrder t.freezes
   freezes_in_order t is = subst (λ (u : Template). AreInOrder u.freezes) (sym is) in_order

@@ -18,7 +18,7 @@ use Rattle.homeo_lform.proofs.NamedWithin.{named_law}
 use Rattle.homeo_lform.proofs.ObjectBounds.{bounds_count}
 use Rattle.homeo_plan.specs.Each.{Each}
 use Rattle.homeo_plan.specs.declared.forms.Delta.{Delta}
-use Rattle.homeo_plan.specs.Linear.{delta_before, Linear, add_deltas}
+use Rattle.homeo_plan.specs.Linear.{AreInOrder, delta_before, Linear, add_deltas}
 use Rattle.homeo_plan.specs.Planned.{sites_of, planned_call, planned, template_at}
 use Rattle.homeo_plan.specs.PlanView.{plain_clause}
 use Rattle.homeo_plan.specs.declared.round.RoundPlan.{RoundPlan}
@@ -26,7 +26,7 @@ use Rattle.homeo_plan.specs.Template.{PlannedCall, atoms_of, needs_of, atoms_of_
 use Rattle.homeo_follow.specs.Key.{definitions as follow_definitions}
 use Rattle.homeo_follow.specs.ObjectTemplate.{expanded_clause}
 use Rattle.homeo_follow.specs.declared.plan.ObjectPlan.{ObjectPlan}
-use Rattle.homeo_follow.proofs.Deltas.{After, Ordered, ordered_adds, each_puts}
+use Rattle.homeo_plan.proofs.DeltaLists.{After, in_order_puts, each_put_all}
 use Rattle.homeo_follow.proofs.Terms.{each_append}
 use Rattle.homeo_build.specs.Plan.{IsPlanOf, IsObjectPlan}
 use Rattle.homeo_build.proofs.FewClauses.{IsSited, planned_sited, clauses_few}
@@ -49,7 +49,7 @@ module _ (n : ℕ) where
   behind d (e ∷ es) l h = (omega (arith, rises d e l h.0), behind d es l h.1)
 
   -- those from place m on
-  few_from : (m : ℕ) (ds : List Delta) → m ≤ n * 16 → Ordered ds → Each (IsPlaced n 16) ds → Each (λ d. m ≤ place d) ds → m + length ds ≤ n * 16
+  few_from : (m : ℕ) (ds : List Delta) → m ≤ n * 16 → AreInOrder ds → Each (IsPlaced n 16) ds → Each (λ d. m ≤ place d) ds → m + length ds ≤ n * 16
   unfolding plan_definitions
   few_from m [] l o p h = omega (arith, l)
   few_from m (d ∷ ds) l o p h =
@@ -63,20 +63,10 @@ module _ (n : ℕ) where
   from_first [] = tt
   from_first (d ∷ ds) = (omega arith, from_first ds)
 
-  placed_few : (ds : List Delta) → Ordered ds → Each (IsPlaced n 16) ds → length ds ≤ n * 16
+  placed_few : (ds : List Delta) → AreInOrder ds → Each (IsPlaced n 16) ds → length ds ≤ n * 16
   placed_few ds o p = omega (arith, few_from 0 ds (omega arith) o p (from_first ds))
 
 -- ---- what is frozen
-put_ordered : (lists : List (List Delta)) (out : List Delta) → Ordered out → Ordered (put_all lists out)
-unfolding plan_definitions
-put_ordered [] out o = o
-put_ordered (ds ∷ lists) out o = put_ordered lists (add_deltas ds out) (ordered_adds ds out o)
-
-put_each : (P : Delta → Type 0) (lists : List (List Delta)) (out : List Delta) → Each (Each P) lists → Each P out → Each P (put_all lists out)
-unfolding plan_definitions
-put_each P [] out h g = g
-put_each P (ds ∷ lists) out h g = put_each P lists (add_deltas ds out) h.1 (each_puts P ds out h.0 g)
-
 each_mixed : (P : Delta → Type 0) (atoms : List Linear) → Each (λ a. Each P a.mixed) atoms → Each (Each P) (map (λ a. a.mixed) atoms)
 unfolding plan_definitions
 each_mixed P [] h = tt
@@ -103,14 +93,14 @@ module _ (n names k : ℕ) (b : ℕ → ℤ) where
   unfolding plan_definitions
   freezes_placed gs h =
       let atoms = atoms_of_sets (map (atoms_of k b) gs) in
-      put_each (IsPlaced n k) (map (needs_of k b) gs) (put_all (map (λ a. a.mixed) atoms) []) (all_needs gs h)
-      (put_each (IsPlaced n k) (map (λ a. a.mixed) atoms) [] (each_mixed (IsPlaced n k) atoms (all_mixed gs h)) tt)
+      each_put_all (IsPlaced n k) (map (needs_of k b) gs) (put_all (map (λ a. a.mixed) atoms) []) (all_needs gs h)
+      (each_put_all (IsPlaced n k) (map (λ a. a.mixed) atoms) [] (each_mixed (IsPlaced n k) atoms (all_mixed gs h)) tt)
 
-  freezes_ordered : (gs : List PlannedCall) → Ordered (template k b gs).freezes
+  freezes_ordered : (gs : List PlannedCall) → AreInOrder (template k b gs).freezes
   unfolding plan_definitions
   freezes_ordered gs =
       let atoms = atoms_of_sets (map (atoms_of k b) gs) in
-      put_ordered (map (needs_of k b) gs) (put_all (map (λ a. a.mixed) atoms) []) (put_ordered (map (λ a. a.mixed) atoms) [] tt)
+      in_order_puts (map (needs_of k b) gs) (put_all (map (λ a. a.mixed) atoms) []) (in_order_puts (map (λ a. a.mixed) atoms) [] tt)
 
 -- ---- of a workload
 module _ (w : s.Workload) (accepted : IsAccepted w) where

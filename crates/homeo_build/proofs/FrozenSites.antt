@@ -7,7 +7,8 @@ use Rattle.std.proofs.lemmas.Bool.Decides.{nat_tests}
 use Rattle.homeo_plan.specs.Each.{Each}
 use Rattle.homeo_plan.specs.Linear.{AreInOrder, delta_before}
 use Rattle.homeo_plan.specs.declared.forms.Delta.{Delta}
-use Rattle.homeo_follow.proofs.Deltas.{has, has_append}
+use Rattle.homeo_plan.proofs.DeltaLists.{has}
+use Rattle.homeo_follow.proofs.Deltas.{has_append}
 use Rattle.homeo_follow.proofs.Terms.{each_append}
 use Rattle.homeo_build.specs.declared.frozen.Frozen.{Frozen}
 use Rattle.homeo_build.specs.declared.frozen.Frozen.TheVariants.{Nowhere}

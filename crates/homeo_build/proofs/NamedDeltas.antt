@@ -20,7 +20,7 @@ use Rattle.homeo_plan.specs.Needs.{remote}
 use Rattle.homeo_plan.specs.Template.{PlannedCall, atoms_of, needs_of}
 use Rattle.homeo_follow.specs.Expanded.{deltas_from, expanded_deltas, expanded}
 use Rattle.homeo_follow.specs.Follow.{passes_by, holds_by, passed_test, failed_test, passed, failed, Followed, asked, object_of, follow, follow_all, object_form, object_forms, followed, gain, print_needs, write_needs, needed}
-use Rattle.homeo_follow.proofs.Deltas.{each_puts}
+use Rattle.homeo_plan.proofs.DeltaLists.{each_puts}
 use Rattle.homeo_follow.proofs.Needed.{needs_are_followed}
 use Rattle.homeo_follow.proofs.PlannedAtoms.{atoms_are_followed}
 use Rattle.homeo_follow.proofs.Terms.{OfEach, each_adds, each_scale, each_append}

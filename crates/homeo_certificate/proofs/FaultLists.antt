@@ -10,7 +10,7 @@ use Rattle.homeo_plan.specs.Each.{Each}
 use Rattle.homeo_plan.specs.declared.forms.Delta.{Delta}
 use Rattle.homeo_plan.specs.Linear.{same_delta, Linear, is_empty, terms_value}
 use Rattle.homeo_plan.specs.Template.{Clause, same_terms, clause_of}
-use Rattle.homeo_plan.proofs.Tracked.{same_delta_is}
+use Rattle.homeo_plan.proofs.Factors.{same_delta_is}
 use Rattle.homeo_plan.proofs.Covering.{same_terms_is}
 use Rattle.homeo_plan.proofs.Atoms.{both_parts}
 use Rattle.homeo_plan.specs.Tracking.{ClauseHolds}

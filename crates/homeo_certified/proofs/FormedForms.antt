@@ -12,26 +12,12 @@ use Rattle.homeo_plan.specs.Each.{Each}
 use Rattle.homeo_plan.specs.declared.forms.Delta.{Delta}
 use Rattle.homeo_plan.specs.declared.forms.Term.{Term}
 use Rattle.homeo_plan.specs.Linear.{delta_of, same_delta, delta_before, Linear, add_delta, add_deltas, with_term, add_term, add_terms, scale_terms, deltas_of, constant_form, delta_form, add_forms, scale_form, is_pure, support, mix_forms, multiply_forms, Forms, base_forms, form, sum_form, product_form}
+use Rattle.homeo_plan.proofs.DeltaLists.{each_puts}
 use Rattle.homeo_plan.proofs.Order.{Sorted, sorted_adds, sorted_scale}
 use Rattle.homeo_certificate.specs.Shape.{DeltaInShape, NameInShape, ExprInShape, ExprsInShape}
 
 -- ---- each delta, and each factor
 module _ (P : Delta → Type 0) where
-  in_add_delta : (d : Delta) (es : List Delta) → P d → Each P es → Each P (add_delta d es)
-  unfolding plan_definitions
-  in_add_delta d [] p h = (p, tt)
-  in_add_delta d (e ∷ es) p h = go (same_delta d e) (delta_before d e) (in_add_delta d es p h.1)
-    where
-      go : (v w : Bool) → Each P (add_delta d es) → Each P (cond v (e ∷ es) (cond w (d ∷ e ∷ es) (e ∷ add_delta d es)))
-      go true w ih = h
-      go false true ih = (p, h)
-      go false false ih = (h.0, ih)
-
-  pub in_add_deltas : (ds es : List Delta) → Each P ds → Each P es → Each P (add_deltas ds es)
-  unfolding plan_definitions
-  in_add_deltas [] es h k = k
-  in_add_deltas (d ∷ ds) es h k = in_add_deltas ds (add_delta d es) h.1 (in_add_delta d es h.0 k)
-
   -- a term of such a delta, with a factor that counts
   pub record TermCounts (t : Term) : Type 0 where
     pub delta : P t.delta
@@ -94,7 +80,7 @@ module _ (P : Delta → Type 0) where
   formed_add a b h k =
       record {
         terms = in_add_terms a.terms b.terms h.terms k.terms;
-        mixed = in_add_deltas a.mixed b.mixed h.mixed k.mixed;
+        mixed = each_puts P a.mixed b.mixed h.mixed k.mixed;
         sorted = sorted_adds a.terms b.terms k.sorted;
       }
 
@@ -104,7 +90,7 @@ module _ (P : Delta → Type 0) where
 
   pub formed_support : (a : Linear) → Formed a → Each P (support a)
   unfolding plan_definitions
-  formed_support a h = in_add_deltas (deltas_of a.terms) a.mixed (in_deltas_of a.terms h.terms) h.mixed
+  formed_support a h = each_puts P (deltas_of a.terms) a.mixed (in_deltas_of a.terms h.terms) h.mixed
 
   formed_multiply : (a b : Linear) → Formed a → Formed b → Formed (multiply_forms a b)
   unfolding plan_definitions
@@ -114,7 +100,7 @@ module _ (P : Delta → Type 0) where
       go true w = formed_scale a.constant b k
       go false true = formed_scale b.constant a h
       go false false =
-          record { terms = tt; mixed = in_add_deltas (support a) (support b) (formed_support a h) (formed_support b k); sorted = tt }
+          record { terms = tt; mixed = each_puts P (support a) (support b) (formed_support a h) (formed_support b k); sorted = tt }
 
   -- ---- expressions whose names are there
   module _ (n k : ℕ) (there : (d : Delta) → DeltaInShape n k d → P d) where

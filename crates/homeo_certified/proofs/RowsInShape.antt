@@ -1,6 +1,7 @@
 -- The rows of commands in shape are in shape, and so the deltas of their atoms and needs are there.
 use Rattle.homeo_meaning.specs.Key.{definitions as meaning_definitions}
 use Rattle.homeo_plan.specs.Key.{definitions as plan_definitions}
+use Rattle.homeo_plan.proofs.DeltaLists.{each_puts}
 use Rattle.homeo_certificate.specs.Key.{definitions}
 use Rattle.std.proofs.Common.{◌≡◌, ℕ, suc, ◌==◌, ◌<◌, ◌^◌, Bool, true, false, cond, List, [], ◌∷◌, ◌++◌, ℤ, pos, negsuc, refl, sym, ap, subst}
 use Rattle.homeo_syntax.specs.declared.phrase.Compare.{Compare}
@@ -17,7 +18,7 @@ use Rattle.homeo_plan.specs.Needs.{remote, written_needs, add_written, needs_fro
 use Rattle.homeo_plan.specs.Table.{Row, replace, replace_all, replace_test, replace_cond, both, otherwise, test_before, clear, clear_all, clear_test, clear_cond, last_row, walk_before, walk_all_before, walk}
 use Rattle.homeo_certificate.specs.Nodes.{expr_count, test_count}
 use Rattle.homeo_certificate.specs.Shape.{DeltaInShape, TargetInShape, IsWord, ExprInShape, ExprsInShape, TestInShape, CondInShape, CommandInShape, CommandsInShape}
-use Rattle.homeo_certified.proofs.FormedForms.{in_add_deltas, Formed, formed_constant, formed_add, formed_scale, formed_support, AllFormed, base_formed, put_formed, expr_formed}
+use Rattle.homeo_certified.proofs.FormedForms.{Formed, formed_constant, formed_add, formed_scale, formed_support, AllFormed, base_formed, put_formed, expr_formed}
 
 module _ (n k : ℕ) where
   -- ---- expressions in others
@@ -218,14 +219,14 @@ module _ (n k : ℕ) where
   unfolding plan_definitions
   written_in i f [] h g = tt
   written_in i f (d ∷ ds) h g =
-      in_add_deltas (DeltaInShape n k) (remote i (support (f (DeltaAt d.object d.site)))) (written_needs i f ds)
+      each_puts (DeltaInShape n k) (remote i (support (f (DeltaAt d.object d.site)))) (written_needs i f ds)
       (support_in i (f (DeltaAt d.object d.site)) (h (DeltaAt d.object d.site) (g.0.object, g.0.site))) (written_in i f ds h g.1)
 
   target_in : (x : SplitName) (ds : List Delta) → TargetInShape n k x → Each (DeltaInShape n k) ds → Each (DeltaInShape n k) (add_written x ds)
   unfolding definitions plan_definitions
   target_in (split.Whole x) ds t h = absurd t
   target_in (split.Base x) ds t h = absurd t
-  target_in (split.Delta x j) ds t h = in_add_deltas (DeltaInShape n k) (delta_of x j ∷ []) ds (record { object = t.0; site = t.1 }, tt) h
+  target_in (split.Delta x j) ds t h = each_puts (DeltaInShape n k) (delta_of x j ∷ []) ds (record { object = t.0; site = t.1 }, tt) h
 
   pub needs_in :
       (i : ℕ) (cs : Commands) (f : Forms) (ds : List Delta) → CommandsInShape n k cs → Made f → Each (DeltaInShape n k) ds →
@@ -240,7 +241,7 @@ module _ (n k : ℕ) where
       (put_formed (DeltaInShape n k) n k (λ d h. h) f (location_of x) (form f e) h (expr_formed (DeltaInShape n k) n k (λ d h. h) f h e s.0.1))
       (target_in x ds s.0.0 g)
   needs_in i (MoreCommand (Print e) cs) f ds s h g =
-      in_add_deltas (DeltaInShape n k) (remote i (support (form f e))) (needs_from i f ds cs)
+      each_puts (DeltaInShape n k) (remote i (support (form f e))) (needs_from i f ds cs)
       (support_in i (form f e) (expr_formed (DeltaInShape n k) n k (λ d h. h) f h e s.0)) (needs_in i cs f ds s.1 h g)
   needs_in i (MoreCommand Skip cs) f ds s h g = needs_in i cs f ds s.1 h g
   needs_in i (MoreCommand (Seq c) cs) f ds s h g = needs_in i cs f ds s.1 h g

@@ -21,10 +21,11 @@ use Rattle.homeo_plan.specs.Atoms.{true_cond}
 use Rattle.homeo_plan.specs.Needs as plan
 use Rattle.homeo_plan.specs.Table.{Row, walk}
 use Rattle.homeo_plan.specs.Template.{PlannedCall, shifted, base_row, atoms_of, needs_of, Clause, clause_of, same_clause, with_clause, clauses_from, atoms_of_sets, put_all, template}
+use Rattle.homeo_plan.proofs.DeltaLists.{in_order_puts, each_put_all, terms_in_order}
 use Rattle.homeo_plan.proofs.Order.{Sorted}
 use Rattle.homeo_plan.proofs.Tables.{row_at_walk}
 use Rattle.homeo_certificate.specs.Shape.{IsWord, DeltaInShape, TermInShape, ClauseInShape, BoundsInShape, CommandInShape}
-use Rattle.homeo_certified.proofs.FormedForms.{in_add_deltas, TermCounts, base_formed}
+use Rattle.homeo_certified.proofs.FormedForms.{TermCounts, base_formed}
 use Rattle.homeo_certified.proofs.RowsInShape.{IsFormed, walk_in_shape, true_cond_formed, needs_in}
 
 -- ---- numbers
@@ -36,71 +37,7 @@ negated_is_word : (n : ℤ) → IsSmall form_limit n → IsWord (neg_ℤ n)
 unfolding meaning_definitions
 negated_is_word n h = let q : unsigned_abs n ≤ 4000000000000000000 = h in record { low = grind (arith, ints, q); high = grind (arith, ints, q) }
 
--- ---- deltas in order
-before-trans : (c d e : Delta) → delta_before c d ≡ true → delta_before d e ≡ true → delta_before c e ≡ true
-unfolding plan_definitions
-before-trans c d e p q = grind (arith, nat_tests)
-
-before-other : (d e : Delta) → same_delta d e ≡ false → delta_before d e ≡ false → delta_before e d ≡ true
-unfolding plan_definitions
-before-other d e p q = grind (arith, nat_tests)
-
-abbrev Before : Delta → List Delta → Type 0
-Before d ds = Each (λ e. delta_before d e ≡ true) ds
-
-before-all : (c d : Delta) (ds : List Delta) → delta_before c d ≡ true → Before d ds → Before c ds
-unfolding plan_definitions
-before-all c d [] h all = tt
-before-all c d (e ∷ ds) h all = (before-trans c d e h all.0, before-all c d ds h all.1)
-
-before-add : (c d : Delta) (ds : List Delta) → delta_before c d ≡ true → Before c ds → Before c (add_delta d ds)
-unfolding plan_definitions
-before-add c d [] h all = (h, tt)
-before-add c d (e ∷ ds) h all = go (same_delta d e) (delta_before d e) (before-add c d ds h all.1)
-  where
-    go : (s b : Bool) → Before c (add_delta d ds) → Before c (cond s (e ∷ ds) (cond b (d ∷ e ∷ ds) (e ∷ add_delta d ds)))
-    go true b rest = all
-    go false true rest = (h, all)
-    go false false rest = (all.0, rest)
-
-add-in_order : (d : Delta) (ds : List Delta) → AreInOrder ds → AreInOrder (add_delta d ds)
-unfolding plan_definitions
-add-in_order d [] o = (tt, tt)
-add-in_order d (e ∷ ds) o = go (same_delta d e) (delta_before d e) refl refl (add-in_order d ds o.1)
-  where
-    go :
-        (s b : Bool) → same_delta d e ≡ s → delta_before d e ≡ b → AreInOrder (add_delta d ds) →
-        AreInOrder (cond s (e ∷ ds) (cond b (d ∷ e ∷ ds) (e ∷ add_delta d ds)))
-    go true b p q rest = o
-    go false true p q rest = ((q, before-all d e ds q o.0), o)
-    go false false p q rest = (before-add e d ds (before-other d e p q) o.0, rest)
-
-deltas-in_order : (ds es : List Delta) → AreInOrder es → AreInOrder (add_deltas ds es)
-unfolding plan_definitions
-deltas-in_order [] es o = o
-deltas-in_order (d ∷ ds) es o = deltas-in_order ds (add_delta d es) (add-in_order d es o)
-
-put-in_order : (dss : List (List Delta)) (out : List Delta) → AreInOrder out → AreInOrder (put_all dss out)
-unfolding plan_definitions
-put-in_order [] out o = o
-put-in_order (ds ∷ dss) out o = put-in_order dss (add_deltas ds out) (deltas-in_order ds out o)
-
-sorted-in_order : (ts : List Term) → Sorted ts → AreInOrder (deltas_of ts)
-unfolding plan_definitions
-sorted-in_order [] h = tt
-sorted-in_order (t ∷ ts) h = (go ts h.0, sorted-in_order ts h.1)
-  where
-    go : (us : List Term) → Each (λ u. delta_before t.delta u.delta ≡ true) us → Each (λ e. delta_before t.delta e ≡ true) (deltas_of us)
-    go [] a = tt
-    go (u ∷ us) a = (a.0, go us a.1)
-
 -- ---- lists of lists
-module _ (Q : Delta → Type 0) where
-  in_all : (dss : List (List Delta)) (out : List Delta) → Each (Each Q) dss → Each Q out → Each Q (put_all dss out)
-  unfolding plan_definitions
-  in_all [] out h k = k
-  in_all (ds ∷ dss) out h k = in_all dss (add_deltas ds out) h.1 (in_add_deltas Q ds out h.0 k)
-
 each_both : {X : Type 0} (Q : X → Type 0) (xs ys : List X) → Each Q xs → Each Q ys → Each Q (xs ++ ys)
 unfolding plan_definitions
 each_both Q [] ys h k = k
@@ -182,7 +119,7 @@ module _ (n k : ℕ) (b : ℕ → ℤ) where
       record {
         slack = negated_is_word a.constant h.numbers.constant;
         terms = good_terms a.terms h.formed.terms h.numbers.factors;
-        order = sorted-in_order a.terms h.formed.sorted;
+        order = terms_in_order a.terms h.formed.sorted;
       }
 
   module _ (gs : List PlannedCall) (ready : Each IsReady gs) where
@@ -198,14 +135,14 @@ module _ (n k : ℕ) (b : ℕ → ℤ) where
     pub freezes_in_shape : Each (DeltaInShape n k) (template k b gs).freezes
     unfolding plan_definitions
     freezes_in_shape =
-        in_all (DeltaInShape n k) (map (needs_of k b) gs) (put_all (map (λ a. a.mixed) (atoms_of_sets (map (atoms_of k b) gs))) [])
+        each_put_all (DeltaInShape n k) (map (needs_of k b) gs) (put_all (map (λ a. a.mixed) (atoms_of_sets (map (atoms_of k b) gs))) [])
         (each_to IsReady (Each (DeltaInShape n k)) (needs_of k b) good_needs gs ready)
-        (in_all (DeltaInShape n k) (map (λ a. a.mixed) (atoms_of_sets (map (atoms_of k b) gs))) []
+        (each_put_all (DeltaInShape n k) (map (λ a. a.mixed) (atoms_of_sets (map (atoms_of k b) gs))) []
         (each_to GoodAtom (Each (DeltaInShape n k)) (λ a. a.mixed) (λ a h. h.formed.mixed) (atoms_of_sets (map (atoms_of k b) gs)) all_good) tt)
 
     pub freezes_in_order : AreInOrder (template k b gs).freezes
     unfolding plan_definitions
-    freezes_in_order = put-in_order (map (needs_of k b) gs) _ (put-in_order (map (λ a. a.mixed) (atoms_of_sets (map (atoms_of k b) gs))) [] tt)
+    freezes_in_order = in_order_puts (map (needs_of k b) gs) _ (in_order_puts (map (λ a. a.mixed) (atoms_of_sets (map (atoms_of k b) gs))) [] tt)
 
 -- ---- bounds that fit
 at_most_total : (bounds : List ℤ) → Each (λ n. pos 0 ≤ℤ n) bounds → Each (λ n. n ≤ℤ total bounds) bounds × (pos 0 ≤ℤ total bounds)

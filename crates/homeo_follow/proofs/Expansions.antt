@@ -9,14 +9,15 @@ use Rattle.homeo_plan.specs.Each.{Each}
 use Rattle.homeo_plan.specs.Split.{sum_from}
 use Rattle.homeo_plan.specs.declared.forms.Delta.{Delta}
 use Rattle.homeo_plan.specs.declared.forms.Term.{Term}
-use Rattle.homeo_plan.specs.Linear.{delta_of, Linear, constant_form, add_deltas, add_terms, scale_terms, deltas_of, add_forms, scale_form, is_empty, is_pure, support, mix_forms, multiply_forms}
+use Rattle.homeo_plan.specs.Linear.{AreInOrder, delta_of, Linear, constant_form, add_deltas, add_terms, scale_terms, deltas_of, add_forms, scale_form, is_empty, is_pure, support, mix_forms, multiply_forms}
 use Rattle.homeo_plan.proofs.Factors.{at_delta, factor, add_terms_factor, scale_terms_factor}
 use Rattle.homeo_plan.proofs.Order.{Above, Sorted, sorted_adds, sorted_scale}
 use Rattle.homeo_plan.proofs.Sums.{sum_same, sum_at}
 use Rattle.homeo_follow.specs.Expanded.{terms_from, deltas_from, expanded_terms, expanded_deltas, expanded}
 use Rattle.homeo_follow.specs.Follow.{object_delta, object_form}
 use Rattle.homeo_follow.proofs.Terms.{AllCount, OfEach, count_adds, count_scale, each_adds, each_scale, same_terms, factor_append, each_append, sorted_append}
-use Rattle.homeo_follow.proofs.Deltas.{has, has_adds, After, Ordered, ordered_adds, each_puts, same_deltas, ordered_terms, has_term, and_or}
+use Rattle.homeo_plan.proofs.DeltaLists.{each_puts, has, has_adds, After, in_order_adds, terms_in_order, same_deltas}
+use Rattle.homeo_follow.proofs.Deltas.{has_term, and_or}
 
 -- ---- lists over whole objects
 abbrev pub IsObject : Delta → Type 0
@@ -27,7 +28,7 @@ pub record IsTidy (a : Linear) : Type 0 where
   pub sorted : Sorted a.terms
   pub count : AllCount a.terms
   pub objects : OfEach IsObject a.terms
-  pub ordered : Ordered a.mixed
+  pub ordered : AreInOrder a.mixed
   pub mixed : Each IsObject a.mixed
 
 pub object_is : (d : Delta) → IsObject d → d ≡ object_delta d.object
@@ -159,7 +160,7 @@ unfolding plan_definitions units
 above_units d [] a = tt
 above_units d (e ∷ es) a = (a.0, above_units d es a.1)
 
-sorted_units : (ds : List Delta) → Ordered ds → Sorted (units ds)
+sorted_units : (ds : List Delta) → AreInOrder ds → Sorted (units ds)
 unfolding plan_definitions units
 sorted_units [] o = tt
 sorted_units (d ∷ ds) o = (above_units d ds o.0, sorted_units ds o.1)
@@ -169,17 +170,17 @@ unfolding plan_definitions units
 objects_units [] h = tt
 objects_units (d ∷ ds) h = (h.0, objects_units ds h.1)
 
-pub ordered_expanded : (k : ℕ) (ds : List Delta) → Each IsObject ds → Ordered ds → Ordered (expanded_deltas k ds)
+pub ordered_expanded : (k : ℕ) (ds : List Delta) → Each IsObject ds → AreInOrder ds → AreInOrder (expanded_deltas k ds)
 ordered_expanded k ds h o =
-    subst Ordered (deltas_expanded k (units ds) ∙ ap (expanded_deltas k) (deltas_of_units ds))
-    (ordered_terms (expanded_terms k (units ds)) (sorted_expanded k (units ds) (objects_units ds h) (sorted_units ds o)))
+    subst AreInOrder (deltas_expanded k (units ds) ∙ ap (expanded_deltas k) (deltas_of_units ds))
+    (terms_in_order (expanded_terms k (units ds)) (sorted_expanded k (units ds) (objects_units ds h) (sorted_units ds o)))
 
 count_units : (ds : List Delta) → AllCount (units ds)
 unfolding plan_definitions units
 count_units [] = tt
 count_units (d ∷ ds) = (refl, count_units ds)
 
-pub has_expanded : (d : Delta) (k : ℕ) (ds : List Delta) → Each IsObject ds → Ordered ds → has d (expanded_deltas k ds) ≡ (nat_lt d.site k && has (object_delta d.object) ds)
+pub has_expanded : (d : Delta) (k : ℕ) (ds : List Delta) → Each IsObject ds → AreInOrder ds → has d (expanded_deltas k ds) ≡ (nat_lt d.site k && has (object_delta d.object) ds)
 has_expanded d k ds h o =
     let us : List Term = units ds in
     let objects : OfEach IsObject us = objects_units ds h in
@@ -195,16 +196,16 @@ has_expanded d k ds h o =
     split true z = refl
     split false z = refl
 
-pub expanded_puts : (k : ℕ) (ds es : List Delta) → Each IsObject ds → Ordered ds → Each IsObject es → Ordered es → expanded_deltas k (add_deltas ds es) ≡ add_deltas (expanded_deltas k ds) (expanded_deltas k es)
+pub expanded_puts : (k : ℕ) (ds es : List Delta) → Each IsObject ds → AreInOrder ds → Each IsObject es → AreInOrder es → expanded_deltas k (add_deltas ds es) ≡ add_deltas (expanded_deltas k ds) (expanded_deltas k es)
 expanded_puts k ds es h o g p =
     same_deltas (expanded_deltas k (add_deltas ds es)) (add_deltas (expanded_deltas k ds) (expanded_deltas k es))
-    (ordered_expanded k (add_deltas ds es) (each_puts IsObject ds es h g) (ordered_adds ds es p))
-    (ordered_adds (expanded_deltas k ds) (expanded_deltas k es) (ordered_expanded k es g p)) at
+    (ordered_expanded k (add_deltas ds es) (each_puts IsObject ds es h g) (in_order_adds ds es p))
+    (in_order_adds (expanded_deltas k ds) (expanded_deltas k es) (ordered_expanded k es g p)) at
   where
     at : (d : Delta) → has d (expanded_deltas k (add_deltas ds es)) ≡ has d (add_deltas (expanded_deltas k ds) (expanded_deltas k es))
     at d =
         let x : Delta = object_delta d.object in
-        has_expanded d k (add_deltas ds es) (each_puts IsObject ds es h g) (ordered_adds ds es p)
+        has_expanded d k (add_deltas ds es) (each_puts IsObject ds es h g) (in_order_adds ds es p)
         ∙ ap (λ b. nat_lt d.site k && b) (has_adds x ds es)
         ∙ and_or (nat_lt d.site k) (has x ds) (has x es)
         ∙ sym (has_adds d (expanded_deltas k ds) (expanded_deltas k es) ∙ ap₂ ◌||◌ (has_expanded d k ds h o) (has_expanded d k es g p))
@@ -262,7 +263,7 @@ tidy_add a b s t =
       sorted = sorted_adds a.terms b.terms t.sorted;
       count = count_adds a.terms b.terms t.count;
       objects = each_adds IsObject a.terms b.terms s.objects t.objects;
-      ordered = ordered_adds a.mixed b.mixed t.ordered;
+      ordered = in_order_adds a.mixed b.mixed t.ordered;
       mixed = each_puts IsObject a.mixed b.mixed s.mixed t.mixed;
     }
 
@@ -286,9 +287,9 @@ pub support_objects : (a : Linear) → IsTidy a → Each IsObject (support a)
 unfolding plan_definitions
 support_objects a t = each_puts IsObject (deltas_of a.terms) a.mixed (objects_of a.terms t.objects) t.mixed
 
-pub support_ordered : (a : Linear) → IsTidy a → Ordered (support a)
+pub support_ordered : (a : Linear) → IsTidy a → AreInOrder (support a)
 unfolding plan_definitions
-support_ordered a t = ordered_adds (deltas_of a.terms) a.mixed t.ordered
+support_ordered a t = in_order_adds (deltas_of a.terms) a.mixed t.ordered
 
 tidy_mix : (a b : Linear) → IsTidy a → IsTidy b → IsTidy (mix_forms a b)
 unfolding plan_definitions
@@ -297,7 +298,7 @@ tidy_mix a b s t =
       sorted = tt;
       count = tt;
       objects = tt;
-      ordered = ordered_adds (support a) (support b) (support_ordered b t);
+      ordered = in_order_adds (support a) (support b) (support_ordered b t);
       mixed = each_puts IsObject (support a) (support b) (support_objects a s) (support_objects b t);
     }
 
@@ -327,7 +328,7 @@ expanded_times k n a t = linear_is _ _ refl (expanded_scale k n a.terms t.object
 pub expanded_support : (k : ℕ) (a : Linear) → IsTidy a → expanded_deltas k (support a) ≡ support (expanded k a)
 unfolding definitions plan_definitions
 expanded_support k a t =
-    expanded_puts k (deltas_of a.terms) a.mixed (objects_of a.terms t.objects) (ordered_terms a.terms t.sorted) t.mixed t.ordered
+    expanded_puts k (deltas_of a.terms) a.mixed (objects_of a.terms t.objects) (terms_in_order a.terms t.sorted) t.mixed t.ordered
     ∙ ap (λ l. add_deltas l (expanded_deltas k a.mixed)) (sym (deltas_expanded k a.terms))
 
 expanded_mix : (k : ℕ) (a b : Linear) → IsTidy a → IsTidy b → expanded k (mix_forms a b) ≡ mix_forms (expanded k a) (expanded k b)

@@ -15,7 +15,7 @@ use Rattle.homeo_plan.specs.Each.{Each}
 use Rattle.homeo_plan.specs.Split.{shift_cond, shift, shift_all}
 use Rattle.homeo_plan.specs.Table.{Row, test_before, otherwise, last_row, walk_before, walk_all_before}
 use Rattle.homeo_plan.specs.declared.forms.Delta as plan
-use Rattle.homeo_plan.specs.Linear.{delta_of, same_delta, Linear, add_delta, add_deltas, deltas_of, support, add_forms, scale_form, delta_form, Forms, base_forms}
+use Rattle.homeo_plan.specs.Linear.{AreInOrder, delta_of, same_delta, Linear, add_delta, add_deltas, deltas_of, support, add_forms, scale_form, delta_form, Forms, base_forms}
 use Rattle.homeo_plan.specs.Needs.{remote, written_needs, needs_from, needs}
 use Rattle.homeo_plan.specs.Template.{PlannedCall, shifted, needs_of}
 use Rattle.homeo_plan.proofs.Factors.{factor, add_terms_factor, scale_terms_factor, same_delta_is}
@@ -23,7 +23,8 @@ use Rattle.homeo_plan.proofs.Tables.{row_at_walk}
 use Rattle.homeo_follow.specs.Expanded.{expanded_deltas, expanded}
 use Rattle.homeo_follow.specs.Follow.{holds_by, passed, failed, Followed, asked, follow, follow_all, object_form, object_forms, followed, gain, print_needs, write_needs, needed}
 use Rattle.homeo_follow.proofs.Walked.{constants, holds_constant, state_after, at_base}
-use Rattle.homeo_follow.proofs.Deltas.{has, has_adds, any_add, or_move, Ordered, ordered_adds, each_puts, same_deltas, has_term, has_remote, ordered_remote, remote_puts}
+use Rattle.homeo_plan.proofs.DeltaLists.{each_puts, has, has_adds, any_add, or_move, in_order_adds, same_deltas}
+use Rattle.homeo_follow.proofs.Deltas.{has_term, has_remote, ordered_remote, remote_puts}
 use Rattle.homeo_follow.proofs.Expansions.{IsObject, IsTidy, tidy_object, tidy_scale, tidy_add, ordered_expanded, expanded_puts, expanded_add, expanded_times, expanded_support, sorted_expanded, count_expanded, support_objects, support_ordered}
 use Rattle.homeo_follow.proofs.Standing.{IsOwn, own_begins, stands_at_base, or_false}
 use Rattle.homeo_follow.proofs.Simulated.{Follows, follows}
@@ -109,11 +110,11 @@ module _ (k i : ℕ) where
 -- in order, and at the one site
 pub record AreObjects (ds : List plan.Delta) : Type 0 where
   pub objects : Each IsObject ds
-  pub ordered : Ordered ds
+  pub ordered : AreInOrder ds
 
 objects_put : (a : Linear) (ds : List plan.Delta) → IsTidy a → AreObjects ds → AreObjects (add_deltas (support a) ds)
 objects_put a ds t o =
-    record { objects = each_puts IsObject (support a) ds (support_objects a t) o.objects; ordered = ordered_adds (support a) ds o.ordered }
+    record { objects = each_puts IsObject (support a) ds (support_objects a t) o.objects; ordered = in_order_adds (support a) ds o.ordered }
 
 module _ (k i : ℕ) where
   -- what other sites have of a list over whole objects
@@ -158,10 +159,10 @@ has_written i f e (x ∷ ds) =
     has_adds e (remote i (support (f (DeltaAt x.object x.site)))) (written_needs i f ds)
     ∙ ap (λ b. has e (remote i (support (f (DeltaAt x.object x.site)))) || b) (has_written i f e ds)
 
-ordered_written : (i : ℕ) (f : Forms) (ds : List plan.Delta) → Ordered (written_needs i f ds)
+ordered_written : (i : ℕ) (f : Forms) (ds : List plan.Delta) → AreInOrder (written_needs i f ds)
 unfolding plan_definitions
 ordered_written i f [] = tt
-ordered_written i f (x ∷ ds) = ordered_adds (remote i (support (f (DeltaAt x.object x.site)))) (written_needs i f ds) (ordered_written i f ds)
+ordered_written i f (x ∷ ds) = in_order_adds (remote i (support (f (DeltaAt x.object x.site)))) (written_needs i f ds) (ordered_written i f ds)
 
 tidy_gain : (n : ℤ) (x : ℕ) (v : Linear) → IsTidy v → IsTidy (gain n x v)
 unfolding definitions

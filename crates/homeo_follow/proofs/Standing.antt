@@ -11,14 +11,14 @@ use Rattle.homeo_syntax.specs.Low.{Expr, Exprs, Read, Sum, Neg, NoExpr, MoreExpr
 use Rattle.homeo_meaning.specs.LowMeaning.{TempAt, BaseAt, DeltaAt, same_temp, put}
 use Rattle.homeo_plan.specs.Split.{sum_from, delta_reads, other_deltas, shift_read}
 use Rattle.homeo_plan.specs.declared.forms.Delta.{Delta}
-use Rattle.homeo_plan.specs.Linear.{delta_of, Linear, constant_form, delta_form, add_forms, scale_form, Forms, base_forms, form, sum_form, scale_terms}
+use Rattle.homeo_plan.specs.Linear.{AreInOrder, delta_of, Linear, constant_form, delta_form, add_forms, scale_form, Forms, base_forms, form, sum_form, scale_terms}
 use Rattle.homeo_plan.proofs.Factors.{at_delta, factor, add_terms_factor, scale_terms_factor}
 use Rattle.homeo_plan.proofs.Order.{Sorted, sorted_adds}
 use Rattle.homeo_plan.proofs.Sums.{sum_same, sum_add, sum_pick}
 use Rattle.homeo_follow.specs.Expanded.{terms_from, expanded_terms, expanded_deltas, expanded}
 use Rattle.homeo_follow.specs.Follow.{object_form, object_forms}
 use Rattle.homeo_follow.proofs.Terms.{AllCount, count_adds, same_terms, factor_append}
-use Rattle.homeo_follow.proofs.Deltas.{has, has_adds, Ordered, ordered_adds, same_deltas}
+use Rattle.homeo_plan.proofs.DeltaLists.{has, has_adds, in_order_adds, same_deltas}
 use Rattle.homeo_follow.proofs.Expansions.{IsTidy, tidy_constant, tidy_object, factor_from, sorted_expanded, count_expanded, ordered_expanded, linear_is}
 
 -- ---- sums are in order, whatever is added up
@@ -32,10 +32,10 @@ unfolding plan_definitions
 count_sum f NoExpr a c = c
 count_sum f (MoreExpr e es) a c = count_sum f es (add_forms (form f e) a) (count_adds (form f e).terms a.terms c)
 
-pub ordered_sum : (f : Forms) (es : Exprs) (a : Linear) → Ordered a.mixed → Ordered (sum_form f a es).mixed
+pub ordered_sum : (f : Forms) (es : Exprs) (a : Linear) → AreInOrder a.mixed → AreInOrder (sum_form f a es).mixed
 unfolding plan_definitions
 ordered_sum f NoExpr a o = o
-ordered_sum f (MoreExpr e es) a o = ordered_sum f es (add_forms (form f e) a) (ordered_adds (form f e).mixed a.mixed o)
+ordered_sum f (MoreExpr e es) a o = ordered_sum f es (add_forms (form f e) a) (in_order_adds (form f e).mixed a.mixed o)
 
 -- ---- whether one of n numbers from j on passes
 abbrev any_from : ℕ → ℕ → (ℕ → Bool) → Bool
@@ -110,7 +110,7 @@ module _ (k i : ℕ) (inside : i < k) (b : ℕ → ℤ) where
     pub mixed : (d : Delta) → has d a.mixed ≡ has d (expanded_deltas k v.mixed)
     pub sorted : Sorted a.terms
     pub count : AllCount a.terms
-    pub ordered : Ordered a.mixed
+    pub ordered : AreInOrder a.mixed
 
   -- the forms f over the deltas of k sites, as site i has made them, stand for the forms g over whole objects
   pub record Stands (f g : Forms) : Type 0 where
@@ -329,7 +329,7 @@ module _ (k i : ℕ) (inside : i < k) (b : ℕ → ℤ) where
             mixed = λ d. ap (has d) (mixed_others k 0 start) ∙ has_adds d (expanded_deltas k v.mixed) [] ∙ or_false (has d (expanded_deltas k v.mixed));
             sorted = sorted_sum f (other_deltas i x 0 k) start (sorted_adds (expanded_terms k v.terms) [] tt);
             count = count_sum f (other_deltas i x 0 k) start (count_adds (expanded_terms k v.terms) [] tt);
-            ordered = ordered_sum f (other_deltas i x 0 k) start (ordered_adds (expanded_deltas k v.mixed) [] tt);
+            ordered = ordered_sum f (other_deltas i x 0 k) start (in_order_adds (expanded_deltas k v.mixed) [] tt);
           })
         where
           start : Linear

@@ -18,7 +18,8 @@ use Rattle.homeo_follow.specs.Expanded.{terms_from, expanded_terms, expanded_del
 use Rattle.homeo_follow.specs.Follow.{object_delta, object_forms, followed, needed}
 use Rattle.homeo_follow.specs.ObjectTemplate.{expanded_clause, followed_atoms, has_object, is_frozen, IsByObjects}
 use Rattle.homeo_follow.proofs.Terms.{OfEach, each_append}
-use Rattle.homeo_follow.proofs.Deltas.{has, has_adds, has_remote, or_move, and_or}
+use Rattle.homeo_plan.proofs.DeltaLists.{has, has_adds, or_move}
+use Rattle.homeo_follow.proofs.Deltas.{has_remote, and_or}
 use Rattle.homeo_follow.proofs.Expansions.{IsObject, IsTidy, object_is, has_expanded, no_terms}
 use Rattle.homeo_follow.proofs.Standing.{stands_at_base}
 use Rattle.homeo_follow.proofs.Simulated.{follows}

@@ -18,7 +18,9 @@ use Rattle.homeo_plan.specs.Limit.{form_limit}
 use Rattle.homeo_form.specs.inner.Key.{definitions}
 use Rattle.homeo_form.specs.inner.Order.{BeginsBehind, IsPlace, begins_with}
 use Rattle.homeo_form.specs.inner.Terms.{AreWithin, AreSmall, AllCount, AreAddedUp, sum_limit, add_at}
-use Rattle.homeo_form.proofs.Orders.{before_is_other, before_is_one_way, before_total, Above, above_before, each_at, take_drop, begins_at, begins_past, place_end, place_after, place_below}
+use Rattle.homeo_plan.proofs.DeltaLists.{After, after_before}
+use Rattle.homeo_plan.proofs.Factors.{before_total}
+use Rattle.homeo_form.proofs.Orders.{before_is_other, before_is_one_way, each_at, take_drop, begins_at, begins_past, place_end, place_after, place_below}
 use Rattle.homeo_form.proofs.Widths.{abs_add}
 
 -- ---- deltas of terms
@@ -212,32 +214,32 @@ term_none t ts xs ys n x y p h k =
     ∙ sym (add_term_split t.delta t.factor ts n q.before)
 
 -- ---- terms stay in order
-above_with : (c d : Delta) (f : ℤ) (ts : List Term) → delta_before c d ≡ true → Above c (deltas_of ts) → Above c (deltas_of (with_term d f ts))
+after_with : (c d : Delta) (f : ℤ) (ts : List Term) → delta_before c d ≡ true → After c (deltas_of ts) → After c (deltas_of (with_term d f ts))
 unfolding plan_definitions
-above_with c d f ts h a = go (int_eq f (pos 0))
+after_with c d f ts h a = go (int_eq f (pos 0))
   where
-    go : (v : Bool) → Above c (deltas_of (cond v ts (record { delta = d; factor = f } ∷ ts)))
+    go : (v : Bool) → After c (deltas_of (cond v ts (record { delta = d; factor = f } ∷ ts)))
     go true = a
     go false = (h, a)
 
-above_add : (c d : Delta) (f : ℤ) (ts : List Term) → delta_before c d ≡ true → Above c (deltas_of ts) → Above c (deltas_of (add_term d f ts))
+after_add : (c d : Delta) (f : ℤ) (ts : List Term) → delta_before c d ≡ true → After c (deltas_of ts) → After c (deltas_of (add_term d f ts))
 unfolding plan_definitions
-above_add c d f [] h a = above_with c d f [] h a
-above_add c d f (t ∷ ts) h a = go (same_delta d t.delta) (delta_before d t.delta) (above_add c d f ts h a.1)
+after_add c d f [] h a = after_with c d f [] h a
+after_add c d f (t ∷ ts) h a = go (same_delta d t.delta) (delta_before d t.delta) (after_add c d f ts h a.1)
   where
     go :
-        (v w : Bool) → Above c (deltas_of (add_term d f ts)) →
-        Above c (deltas_of (cond v (with_term t.delta (f +ℤ t.factor) ts) (cond w (with_term d f (t ∷ ts)) (t ∷ add_term d f ts))))
-    go true w ih = above_with c t.delta (f +ℤ t.factor) ts a.0 a.1
-    go false true ih = above_with c d f (t ∷ ts) h a
+        (v w : Bool) → After c (deltas_of (add_term d f ts)) →
+        After c (deltas_of (cond v (with_term t.delta (f +ℤ t.factor) ts) (cond w (with_term d f (t ∷ ts)) (t ∷ add_term d f ts))))
+    go true w ih = after_with c t.delta (f +ℤ t.factor) ts a.0 a.1
+    go false true ih = after_with c d f (t ∷ ts) h a
     go false false ih = (a.0, ih)
 
-above_scale : (c : Delta) (n : ℤ) (ts : List Term) → Above c (deltas_of ts) → Above c (deltas_of (scale_terms n ts))
+after_scale : (c : Delta) (n : ℤ) (ts : List Term) → After c (deltas_of ts) → After c (deltas_of (scale_terms n ts))
 unfolding plan_definitions
-above_scale c n [] a = tt
-above_scale c n (t ∷ ts) a = above_with c t.delta (n *ℤ t.factor) (scale_terms n ts) a.0 (above_scale c n ts a.1)
+after_scale c n [] a = tt
+after_scale c n (t ∷ ts) a = after_with c t.delta (n *ℤ t.factor) (scale_terms n ts) a.0 (after_scale c n ts a.1)
 
-order_with : (d : Delta) (f : ℤ) (ts : List Term) → Above d (deltas_of ts) → AreInOrder (deltas_of ts) → AreInOrder (deltas_of (with_term d f ts))
+order_with : (d : Delta) (f : ℤ) (ts : List Term) → After d (deltas_of ts) → AreInOrder (deltas_of ts) → AreInOrder (deltas_of (with_term d f ts))
 unfolding plan_definitions
 order_with d f ts a o = go (int_eq f (pos 0))
   where
@@ -254,8 +256,8 @@ order_add d f (t ∷ ts) o = go (same_delta d t.delta) refl (delta_before d t.de
         (v : Bool) → same_delta d t.delta ≡ v → (w : Bool) → delta_before d t.delta ≡ w → AreInOrder (deltas_of (add_term d f ts)) →
         AreInOrder (deltas_of (cond v (with_term t.delta (f +ℤ t.factor) ts) (cond w (with_term d f (t ∷ ts)) (t ∷ add_term d f ts))))
     go true p w q ih = order_with t.delta (f +ℤ t.factor) ts o.0 o.1
-    go false p true q ih = order_with d f (t ∷ ts) (q, above_before d t.delta (deltas_of ts) q o.0) o
-    go false p false q ih = (above_add t.delta d f ts (before_total d t.delta p q) o.0, ih)
+    go false p true q ih = order_with d f (t ∷ ts) (q, after_before d t.delta (deltas_of ts) q o.0) o
+    go false p false q ih = (after_add t.delta d f ts (before_total d t.delta p q) o.0, ih)
 
 pub order_adds : (ts us : List Term) → AreInOrder (deltas_of us) → AreInOrder (deltas_of (add_terms ts us))
 unfolding plan_definitions
@@ -266,7 +268,7 @@ pub order_scale : (n : ℤ) (ts : List Term) → AreInOrder (deltas_of ts) → A
 unfolding plan_definitions
 order_scale n [] o = tt
 order_scale n (t ∷ ts) o =
-    order_with t.delta (n *ℤ t.factor) (scale_terms n ts) (above_scale t.delta n ts o.0) (order_scale n ts o.1)
+    order_with t.delta (n *ℤ t.factor) (scale_terms n ts) (after_scale t.delta n ts o.0) (order_scale n ts o.1)
 
 pub place_within : (d : Delta) (xs : List Term) (n m : ℕ) → length xs ≡ m → IsPlace d (deltas_of xs) n → n ≤ m
 place_within d xs n m e p = omega (arith, e, p.within, length_deltas xs)
@@ -435,7 +437,7 @@ lead_of (t ∷ []) zero x l c b o = record { order = (tt, tt); counts = (is_not 
 lead_of (t ∷ u ∷ us) zero x l c b o =
     let h : delta_before t.delta u.delta ≡ true = sym (b (omega arith)) in
     record {
-      order = ((h, above_before t.delta u.delta (deltas_of us) h o.order.0), o.order);
+      order = ((h, after_before t.delta u.delta (deltas_of us) h o.order.0), o.order);
       counts = (is_not (int_eq t.factor (pos 0)) c, o.counts);
     }
 lead_of (t ∷ ts) (suc n) x l c b o = lead_of ts n x (omega (arith, l)) c (λ k. b (omega (arith, k))) o

@@ -11,23 +11,24 @@ use Rattle.homeo_form.specs.inner.Key.{definitions}
 use Rattle.homeo_form.specs.inner.Order.{BeginsBehind, IsPlace}
 use Rattle.homeo_form.specs.inner.Terms.{share, factor_at}
 use Rattle.homeo_form.proofs.Adding.{length_deltas}
-use Rattle.homeo_form.proofs.DeltasInOrder.{same_is}
-use Rattle.homeo_form.proofs.Orders.{Above, above_before, before_is_other, before_total, before_trans}
+use Rattle.homeo_plan.proofs.DeltaLists.{After, after_before}
+use Rattle.homeo_plan.proofs.Factors.{same_delta_is, before_total, before_trans}
+use Rattle.homeo_form.proofs.Orders.{before_is_other}
 use Rattle.homeo_form.proofs.TermsAddedUp.{add_zero, zero_add, above_none}
 
 -- ---- the place
-above_at : (c : Delta) (ts : List Term) (n : ℕ) (x : Term) → n < length ts → Above c (deltas_of ts) → delta_before c (slice_index_or ts n x).delta ≡ true
+after_at : (c : Delta) (ts : List Term) (n : ℕ) (x : Term) → n < length ts → After c (deltas_of ts) → delta_before c (slice_index_or ts n x).delta ≡ true
 unfolding plan_definitions
-above_at c [] n x l a = absurd (omega (arith, l))
-above_at c (t ∷ ts) zero x l a = a.0
-above_at c (t ∷ ts) (suc n) x l a = above_at c ts n x (omega (arith, l)) a.1
+after_at c [] n x l a = absurd (omega (arith, l))
+after_at c (t ∷ ts) zero x l a = a.0
+after_at c (t ∷ ts) (suc n) x l a = after_at c ts n x (omega (arith, l)) a.1
 
 pub parted : (d : Delta) (ts : List Term) → AreInOrder (deltas_of ts) → IsPartitionedBy (λ (t : Term). delta_before t.delta d) ts
 unfolding plan_definitions
 parted d [] order i j x l m p = absurd (omega (arith, m))
 parted d (t ∷ ts) order zero zero x l m p = p
 parted d (t ∷ ts) order zero (suc j) x l m p =
-    before_trans t.delta (slice_index_or ts j x).delta d (above_at t.delta ts j x (omega (arith, m)) order.0) p
+    before_trans t.delta (slice_index_or ts j x).delta d (after_at t.delta ts j x (omega (arith, m)) order.0) p
 parted d (t ∷ ts) order (suc i) zero x l m p = absurd (omega (arith, l))
 parted d (t ∷ ts) order (suc i) (suc j) x l m p = parted d ts order.1 i j x (omega (arith, l)) (omega (arith, m)) p
 
@@ -66,9 +67,9 @@ none_more : (d : Delta) (t : Term) (ts : List Term) → AreInOrder (deltas_of (t
 unfolding plan_definitions
 none_more d t ts o b = above_none d ts (go (same_delta d t.delta) refl)
   where
-    go : (v : Bool) → same_delta d t.delta ≡ v → Above d (deltas_of ts)
-    go true h = subst (λ e. Above e (deltas_of ts)) (sym (same_is d t.delta h)) o.0
-    go false h = above_before d t.delta (deltas_of ts) (before_total t.delta d (swapped d t.delta h) b) o.0
+    go : (v : Bool) → same_delta d t.delta ≡ v → After d (deltas_of ts)
+    go true h = subst (λ e. After e (deltas_of ts)) (sym (same_delta_is d t.delta h)) o.0
+    go false h = after_before d t.delta (deltas_of ts) (before_total t.delta d (swapped d t.delta h) b) o.0
 
 at_place : (d : Delta) (ts : List Term) (n : ℕ) (x : Term) → AreInOrder (deltas_of ts) → n < length ts → Each (λ e. delta_before e d ≡ true) (take n (deltas_of ts)) →
     BeginsBehind d (drop n (deltas_of ts)) → factor_at d ts ≡ share d (slice_index_or ts n x).delta (slice_index_or ts n x).factor

@@ -15,7 +15,7 @@ use Rattle.homeo_follow.specs.Follow.{object_form}
 use Rattle.homeo_form.specs.inner.Key.{definitions}
 use Rattle.homeo_form.specs.Moved.{IsMoved}
 use Rattle.homeo_form.specs.inner.Terms.{AreSmall, AreAddedUp, term_form}
-use Rattle.homeo_form.proofs.Orders.{in_order_adds}
+use Rattle.homeo_plan.proofs.DeltaLists.{in_order_adds}
 use Rattle.homeo_form.proofs.Adding.{order_adds, order_scale}
 use Rattle.homeo_form.proofs.DeltasInOrder.{in_order_kept as deltas_kept, adds_append as deltas_append, adds_swap as deltas_swap}
 use Rattle.homeo_form.proofs.TermsAddedUp.{count_adds, count_scale, in_order_kept as terms_kept, adds_append as terms_append}

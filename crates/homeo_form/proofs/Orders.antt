@@ -7,6 +7,8 @@ use Rattle.homeo_plan.specs.Key.{definitions as plan_definitions}
 use Rattle.homeo_plan.specs.Each.{Each}
 use Rattle.homeo_plan.specs.Linear.{AreInOrder, same_delta, delta_before, add_delta, add_deltas}
 use Rattle.homeo_plan.specs.declared.forms.Delta.{Delta}
+use Rattle.homeo_plan.proofs.DeltaLists.{in_order_add}
+use Rattle.homeo_plan.proofs.Factors.{before_trans, before_total}
 use Rattle.homeo_form.specs.inner.Key.{definitions}
 use Rattle.homeo_form.specs.inner.Order.{BeginsBehind, IsPlace, begins_with}
 
@@ -19,18 +21,7 @@ pub before_is_one_way : (d e : Delta) → delta_before e d ≡ true → delta_be
 unfolding plan_definitions
 before_is_one_way d e h = grind (arith, nat_tests)
 
-pub before_trans : (c d e : Delta) → delta_before c d ≡ true → delta_before d e ≡ true → delta_before c e ≡ true
-unfolding plan_definitions
-before_trans c d e p q = grind (arith, nat_tests)
-
-pub before_total : (d e : Delta) → same_delta d e ≡ false → delta_before d e ≡ false → delta_before e d ≡ true
-unfolding plan_definitions
-before_total d e p q = grind (arith, nat_tests)
-
 -- ---- places
-abbrev pub Above : Delta → List Delta → Type 0
-Above d ds = Each (λ e. delta_before d e ≡ true) ds
-
 pub each_at : {X : Type 0} (P : X → Type 0) (xs : List X) (n : ℕ) (x : X) → n < length xs → Each P xs → P (get_or xs n x)
 unfolding plan_definitions
 each_at P [] n x l h = absurd (omega (arith, l))
@@ -93,37 +84,6 @@ begins_past d (e ∷ es) zero l = absurd (omega (arith, l))
 begins_past d (e ∷ es) (suc p) l = begins_past d es p (omega (arith, l))
 
 -- ---- one more
-pub above_before : (c d : Delta) (ds : List Delta) → delta_before c d ≡ true → Above d ds → Above c ds
-unfolding plan_definitions
-above_before c d [] h a = tt
-above_before c d (e ∷ es) h a = (before_trans c d e h a.0, above_before c d es h a.1)
-
-above_add : (c d : Delta) (ds : List Delta) → delta_before c d ≡ true → Above c ds → Above c (add_delta d ds)
-unfolding plan_definitions
-above_add c d [] h a = (h, tt)
-above_add c d (e ∷ es) h a = go (same_delta d e) (delta_before d e) (above_add c d es h a.1)
-  where
-    go : (v w : Bool) → Above c (add_delta d es) → Above c (cond v (e ∷ es) (cond w (d ∷ e ∷ es) (e ∷ add_delta d es)))
-    go true w ih = a
-    go false true ih = (h, a)
-    go false false ih = (a.0, ih)
-
-pub in_order_add : (d : Delta) (ds : List Delta) → AreInOrder ds → AreInOrder (add_delta d ds)
-unfolding plan_definitions
-in_order_add d [] o = (tt, tt)
-in_order_add d (e ∷ es) o = go (same_delta d e) refl (delta_before d e) refl (in_order_add d es o.1)
-  where
-    go : (v : Bool) → same_delta d e ≡ v → (w : Bool) → delta_before d e ≡ w → AreInOrder (add_delta d es) →
-        AreInOrder (cond v (e ∷ es) (cond w (d ∷ e ∷ es) (e ∷ add_delta d es)))
-    go true p w q ih = o
-    go false p true q ih = ((q, above_before d e es q o.0), o)
-    go false p false q ih = (above_add e d es (before_total d e p q) o.0, ih)
-
-pub in_order_adds : (ds es : List Delta) → AreInOrder es → AreInOrder (add_deltas ds es)
-unfolding plan_definitions
-in_order_adds [] es o = o
-in_order_adds (d ∷ ds) es o = in_order_adds ds (add_delta d es) (in_order_add d es o)
-
 add_split : (d : Delta) (ds : List Delta) (n : ℕ) → Each (λ e. delta_before e d ≡ true) (take n ds) → add_delta d ds ≡ take n ds ++ add_delta d (drop n ds)
 unfolding plan_definitions
 add_split d [] zero h = refl

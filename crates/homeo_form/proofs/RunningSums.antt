@@ -21,7 +21,7 @@ use Rattle.homeo_form.specs.inner.Key.{definitions}
 use Rattle.homeo_form.specs.inner.Running.{DeltaKey, key_cmp, key_of, Factors, factor_in, factor_with, IsRunning}
 use Rattle.homeo_form.specs.inner.Terms.{AreSmall, share, factor_at}
 use Rattle.homeo_form.proofs.Adding.{order_adds}
-use Rattle.homeo_form.proofs.DeltasInOrder.{same_is}
+use Rattle.homeo_plan.proofs.Factors.{same_delta_is}
 use Rattle.homeo_form.proofs.FormParts.{form_of, AreFormParts, small_terms, small_constant, both_small}
 use Rattle.homeo_form.proofs.TermsAddedUp.{adds_append as terms_append, add_zero, zero_add, add_assoc, add_swap, at_adds, above_none, first_at}
 
@@ -34,7 +34,7 @@ zero_small = omega arith
 none_behind : (d : Delta) (t : Term) (ts : List Term) → AreInOrder (deltas_of (t ∷ ts)) → same_delta d t.delta ≡ true → factor_at d ts ≡ pos 0
 unfolding plan_definitions
 none_behind d t ts o h =
-    ap (λ e. factor_at e ts) (same_is d t.delta h) ∙ above_none t.delta ts o.0
+    ap (λ e. factor_at e ts) (same_delta_is d t.delta h) ∙ above_none t.delta ts o.0
 
 small_at_each : (ts : List Term) → AreInOrder (deltas_of ts) → AreSmall ts → (d : Delta) → IsSmall form_limit (factor_at d ts)
 unfolding definitions plan_definitions
@@ -77,7 +77,7 @@ module _ (m n : Factors) (first : List Term) (t : Term) (w : ℤ) (u : (q : Delt
       ∙ go (same_delta d t.delta) refl
     where
       go : (v : Bool) → same_delta d t.delta ≡ v → unwrap_or (cond v (Some w) (get key_cmp m (key_of d))) (factor_at d first) ≡ cond v t.factor (pos 0) +ℤ factor_in m first d
-      go true h = p ∙ ap (λ e. t.factor +ℤ factor_in m first e) (sym (same_is d t.delta h))
+      go true h = p ∙ ap (λ e. t.factor +ℤ factor_in m first e) (sym (same_delta_is d t.delta h))
       go false h = sym (add_zero (factor_in m first d))
 
 -- ---- one term after another
@@ -110,7 +110,7 @@ module _ (m : Factors) (first ts : List Term) where
     factors_more h = record { small = λ d. go d (same_delta d t.delta) refl; order = order_next.1; left = left_next }
       where
         go : (d : Delta) (v : Bool) → same_delta d t.delta ≡ v → IsSmall form_limit (factor_in k first d)
-        go d true e = subst (λ y. IsSmall form_limit (factor_in k first y)) (sym (same_is d t.delta e)) h
+        go d true e = subst (λ y. IsSmall form_limit (factor_in k first y)) (sym (same_delta_is d t.delta e)) h
         go d false e =
             subst (IsSmall form_limit) (sym (u d ∙ ap (λ b. cond b t.factor (pos 0) +ℤ factor_in n first d) e ∙ add_zero (factor_in n first d))) (s.small d)
 

@@ -17,9 +17,10 @@ use Rattle.homeo_plan.specs.declared.forms.Term.{Term}
 use Rattle.homeo_plan.specs.Limit.{form_limit}
 use Rattle.homeo_form.specs.inner.Key.{definitions}
 use Rattle.homeo_form.specs.inner.Terms.{AllCount, AreSmall, share, factor_at}
-use Rattle.homeo_form.proofs.Orders.{Above, above_before, before_total, each_at}
+use Rattle.homeo_plan.proofs.DeltaLists.{After, after_before}
+use Rattle.homeo_form.proofs.Orders.{each_at}
 use Rattle.homeo_form.proofs.Adding.{order_adds}
-use Rattle.homeo_form.proofs.DeltasInOrder.{same_is, same_self, before_not_same}
+use Rattle.homeo_plan.proofs.Factors.{same_delta_is, same_delta_refl, before_is_other, before_total}
 
 -- ---- numbers
 none_left : (f : ℤ) → int_eq f (pos 0) ≡ true → f ≡ pos 0
@@ -72,7 +73,7 @@ at_add d e f (t ∷ ts) = go (same_delta e t.delta) refl (delta_before e t.delta
         ≡ share d e f +ℤ (share d t.delta t.factor +ℤ factor_at d ts)
     go true p w ih =
         at_with d t.delta (f +ℤ t.factor) ts
-        ∙ ap (λ z. z +ℤ factor_at d ts) (share_sum (same_delta d t.delta) f t.factor ∙ ap (λ x. share d x f +ℤ share d t.delta t.factor) (sym (same_is e t.delta p)))
+        ∙ ap (λ z. z +ℤ factor_at d ts) (share_sum (same_delta d t.delta) f t.factor ∙ ap (λ x. share d x f +ℤ share d t.delta t.factor) (sym (same_delta_is e t.delta p)))
         ∙ add_assoc (share d e f) (share d t.delta t.factor) (factor_at d ts)
     go false p true ih = at_with d e f (t ∷ ts)
     go false p false ih =
@@ -87,17 +88,17 @@ at_adds d (t ∷ ts) us =
     ∙ add_swap (factor_at d ts) (share d t.delta t.factor) (factor_at d us)
     ∙ sym (add_assoc (share d t.delta t.factor) (factor_at d ts) (factor_at d us))
 
-pub above_none : (d : Delta) (ts : List Term) → Above d (deltas_of ts) → factor_at d ts ≡ pos 0
+pub above_none : (d : Delta) (ts : List Term) → After d (deltas_of ts) → factor_at d ts ≡ pos 0
 unfolding definitions plan_definitions
 above_none d [] a = refl
 above_none d (t ∷ ts) a =
-    ap₂ (λ b z. cond b t.factor (pos 0) +ℤ z) (before_not_same d t.delta a.0) (above_none d ts a.1)
+    ap₂ (λ b z. cond b t.factor (pos 0) +ℤ z) (before_is_other d t.delta a.0) (above_none d ts a.1)
 
 -- the first term has all of its delta's factors
-pub first_at : (t : Term) (ts : List Term) → Above t.delta (deltas_of ts) → factor_at t.delta (t ∷ ts) ≡ t.factor
+pub first_at : (t : Term) (ts : List Term) → After t.delta (deltas_of ts) → factor_at t.delta (t ∷ ts) ≡ t.factor
 unfolding definitions
 first_at t ts a =
-    ap₂ (λ b z. cond b t.factor (pos 0) +ℤ z) (same_self t.delta) (above_none t.delta ts a) ∙ zero_add t.factor
+    ap₂ (λ b z. cond b t.factor (pos 0) +ℤ z) (same_delta_refl t.delta) (above_none t.delta ts a) ∙ zero_add t.factor
 
 -- ---- in another order
 -- what is gained and what is lost
@@ -139,7 +140,7 @@ same_rest t u d ts us p h =
     add_cancel (share d t.delta t.factor) (factor_at d ts) (factor_at d us) (h ∙ ap (λ (x : Term). share d x.delta x.factor +ℤ factor_at d us) (sym p))
 
 -- a term that counts is missed by a list without its delta
-missed : (t : Term) (ts us : List Term) → int_eq t.factor (pos 0) ≡ false → Above t.delta (deltas_of ts) → factor_at t.delta us ≡ pos 0 →
+missed : (t : Term) (ts us : List Term) → int_eq t.factor (pos 0) ≡ false → After t.delta (deltas_of ts) → factor_at t.delta us ≡ pos 0 →
     factor_at t.delta (t ∷ ts) ≡ factor_at t.delta us → ⊥
 missed t ts us c a n h = left_over t.factor c (sym (first_at t ts a) ∙ h ∙ n)
 
@@ -156,15 +157,15 @@ same_terms (t ∷ ts) (u ∷ us) o p c k h =
         (v : Bool) → same_delta t.delta u.delta ≡ v → (w : Bool) → delta_before t.delta u.delta ≡ w →
         (((x : Delta) → factor_at x ts ≡ factor_at x us) → ts ≡ us) → t ∷ ts ≡ u ∷ us
     go true q w r ih =
-        let e : t.delta ≡ u.delta = same_is t.delta u.delta q in
+        let e : t.delta ≡ u.delta = same_delta_is t.delta u.delta q in
         let f : t.factor ≡ u.factor = sym (first_at t ts o.0) ∙ h t.delta ∙ ap (λ x. factor_at x (u ∷ us)) e ∙ first_at u us p.0 in
         let s : t ≡ u = λ i. record { delta = e i; factor = f i } in
         ap₂ ◌∷◌ s (ih (λ x. same_rest t u x ts us s (h x)))
     go false q true r ih =
-        absurd (missed t ts (u ∷ us) c.0 o.0 (above_none t.delta (u ∷ us) (r, above_before t.delta u.delta (deltas_of us) r p.0)) (h t.delta))
+        absurd (missed t ts (u ∷ us) c.0 o.0 (above_none t.delta (u ∷ us) (r, after_before t.delta u.delta (deltas_of us) r p.0)) (h t.delta))
     go false q false r ih =
         let s : delta_before u.delta t.delta ≡ true = before_total t.delta u.delta q r in
-        absurd (missed u us (t ∷ ts) k.0 p.0 (above_none u.delta (t ∷ ts) (s, above_before u.delta t.delta (deltas_of ts) s o.0)) (sym (h u.delta)))
+        absurd (missed u us (t ∷ ts) k.0 p.0 (above_none u.delta (t ∷ ts) (s, after_before u.delta t.delta (deltas_of ts) s o.0)) (sym (h u.delta)))
 
 -- ---- factors that aren't 0
 count_with : (d : Delta) (f : ℤ) (ts : List Term) → AllCount ts → AllCount (with_term d f ts)

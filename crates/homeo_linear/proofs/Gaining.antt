@@ -15,9 +15,9 @@ use Rattle.homeo_plan.specs.declared.forms.Delta.{Delta}
 use Rattle.homeo_plan.specs.declared.forms.Term.{Term}
 use Rattle.homeo_plan.specs.Linear.{AreInOrder, Linear, Forms, delta_before, deltas_of, with_term, add_term, add_delta, add_deltas, scale_form, support}
 use Rattle.homeo_follow.specs.Follow.{object_delta, object_form, gain, print_needs, write_needs}
-use Rattle.homeo_follow.proofs.Deltas.{any_add}
-use Rattle.homeo_form.proofs.DeltasInOrder.{has, or_move, or_none, has_adds, same_deltas, same_self, adds_append}
-use Rattle.homeo_form.proofs.Orders.{in_order_adds}
+use Rattle.homeo_plan.proofs.DeltaLists.{has, any_adds, has_adds, in_order_adds, same_deltas}
+use Rattle.homeo_plan.proofs.Factors.{same_delta_refl}
+use Rattle.homeo_form.proofs.DeltasInOrder.{or_none, adds_append}
 use Rattle.homeo_form.specs.Moved.{IsMoved}
 
 -- the objects that deltas stand for
@@ -25,12 +25,6 @@ abbrev objects : List Delta → List ℕ
 objects ds = map (λ d. d.object) ds
 
 -- ---- one of the deltas that are put together
-any_adds : (q : Delta → Bool) (ds es : List Delta) → list_any q (add_deltas ds es) ≡ (list_any q ds || list_any q es)
-unfolding plan_definitions
-any_adds q [] es = refl
-any_adds q (d ∷ ds) es =
-    any_adds q ds (add_delta d es) ∙ ap (λ v. list_any q ds || v) (any_add q d es) ∙ or_move (list_any q ds) (q d) (list_any q es)
-
 any_object : (q : ℕ → Bool) (ds : List Delta) → list_any q (objects ds) ≡ list_any (λ d. q d.object) ds
 any_object q [] = refl
 any_object q (d ∷ ds) = ap (λ v. q d.object || v) (any_object q ds)
@@ -96,7 +90,7 @@ moved_gain n x a h =
     let t : Term = record { delta = d; factor = pos 1 } in
     ap (λ b. support (gain n x b)) h
     ∙ ap (λ v. add_deltas (deltas_of (cond v (with_term d (negsuc 0 +ℤ pos 1) []) (cond (delta_before d d) (with_term d (negsuc 0) (t ∷ [])) (t ∷ add_term d (negsuc 0) [])))) [])
-    (same_self d)
+    (same_delta_refl d)
 
 pub moved_pushed : (n : ℤ) (x : ℕ) (a : Linear) (ds : List Delta) → IsMoved x a → ds ≡ ds ++ support (gain n x a)
 moved_pushed n x a ds h = sym (ap (λ l. ds ++ l) (moved_gain n x a h) ∙ append-nil ds)

@@ -12,7 +12,8 @@ use Rattle.homeo_plan.specs.declared.forms.Term.{Term}
 use Rattle.homeo_plan.specs.Linear.{same_delta, Linear, add_deltas, is_empty, terms_value, IsZeroAt}
 use Rattle.homeo_plan.specs.Holding.{AtomHolds}
 use Rattle.homeo_plan.specs.Template.{PlannedCall, atoms_of, needs_of, Clause, clause_of, same_term, same_terms, same_clause, with_clause, clauses_from, atoms_of_sets, put_all, template, Covers}
-use Rattle.homeo_plan.proofs.Tracked.{same_delta_is, each_add_deltas}
+use Rattle.homeo_plan.proofs.Factors.{same_delta_is}
+use Rattle.homeo_plan.proofs.Tracked.{each_add_deltas}
 use Rattle.homeo_plan.proofs.Atoms.{each_append, int_eq_is}
 use Rattle.homeo_plan.specs.Tracking.{IsBelowAtBase, ClauseHolds}
 

@@ -10,7 +10,8 @@ use Rattle.homeo_plan.specs.Each.{Member, Each}
 use Rattle.homeo_plan.specs.declared.forms.Delta.{Delta}
 use Rattle.homeo_plan.specs.Linear.{delta_of, same_delta, delta_before, Linear, add_delta, support, Forms, base_forms, form}
 use Rattle.homeo_plan.specs.Needs.{remote, written_needs, needs_from, needs, IsStraight}
-use Rattle.homeo_plan.proofs.Tracked.{same_delta_is, each_add_deltas, tracks, same_by_support}
+use Rattle.homeo_plan.proofs.Factors.{same_delta_is}
+use Rattle.homeo_plan.proofs.Tracked.{each_add_deltas, tracks, same_by_support}
 use Rattle.homeo_plan.specs.Tracking.{Agrees, Tracks, TracksAll, IsSameUnlessWritten}
 use Rattle.homeo_plan.specs.Holding.{IsOn, ZeroInBoth, SameOwn}
 use Rattle.homeo_plan.proofs.Atoms.{start_tracks}

@@ -12,16 +12,10 @@ use Rattle.homeo_plan.specs.declared.forms.Term.{Term}
 use Rattle.homeo_plan.specs.Linear.{same_delta, delta_before, Linear, add_delta, add_deltas, with_term, add_term, add_terms, scale_terms, deltas_of, constant_form, add_forms, scale_form, is_empty, is_pure, support, mix_forms, multiply_forms, Forms, form, sum_form, product_form, terms_value, form_value, IsZeroAt}
 use Rattle.homeo_plan.specs.Each.{Each}
 use Rattle.homeo_plan.specs.Tracking.{Agrees, Is, Differ, Tracks, TracksAll}
+use Rattle.homeo_plan.proofs.Factors.{same_delta_is}
 use Rattle.homeo_plan.proofs.WholeNumbers.{dist, dist_left, dist2, mul_comm_z}
 
 -- ---- deltas
-pub same_delta_is : (d e : Delta) → same_delta d e ≡ true → d ≡ e
-unfolding definitions meaning_definitions
-same_delta_is d e h =
-    let x : d.object ≡ e.object = grind (arith, nat_tests) in
-    let j : d.site ≡ e.site = grind (arith, nat_tests) in
-    λ i. record { object = x i; site = j i }
-
 pub each_add_delta : (P : Delta → Type 0) (d : Delta) (es : List Delta) → Each P (add_delta d es) → P d × Each P es
 unfolding definitions meaning_definitions
 each_add_delta P d [] h = h

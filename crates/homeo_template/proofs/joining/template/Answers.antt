@@ -5,7 +5,7 @@ use Rattle.homeo_plan.specs.Template.{atoms_of_sets}
 use Rattle.homeo_plan.specs.declared.templates.FreezeSet.{FreezeSet}
 use Rattle.homeo_plan.specs.Linear.{AreInOrder}
 use Rattle.homeo_template.proofs.Appending.{template_of}
-use Rattle.homeo_template.proofs.Ordered.{none-in_order, put-in_order}
+use Rattle.homeo_plan.proofs.DeltaLists.{none_in_order, in_order_puts}
 use Rattle.homeo_template.proofs.Slacks.{have-slack, small-slacks}
 use Rattle.homeo_template.proofs.joining.template.Goals as goal
 
@@ -21,4 +21,4 @@ returns-clause-slack c = λ below. have-slack c.args.sets.now _ below c.in_ok-cl
 pub returns-clause-order : goal.returns-clause-order
 returns-clause-order c =
     subst AreInOrder (sym c.in_ok-freezes.ensures)
-    (put-in_order (map (λ (f : FreezeSet). f.deltas.items) c.args.freezes.now) _ (put-in_order (map (λ a. a.mixed) (atoms_of_sets (map plain_atoms c.args.sets.now))) [] none-in_order))
+    (in_order_puts (map (λ (f : FreezeSet). f.deltas.items) c.args.freezes.now) _ (in_order_puts (map (λ a. a.mixed) (atoms_of_sets (map plain_atoms c.args.sets.now))) [] none_in_order))
