@@ -22,7 +22,9 @@ use std::alloc::Global;
 /// A ground call: its site, and its command, transformed for that site.
 #[derive(Drop)]
 pub struct Call {
+    /// The site of its client, below the number of sites.
     pub site: u32,
+    /// What it does there, over bases and deltas.
     pub command: LCommand,
 }
 

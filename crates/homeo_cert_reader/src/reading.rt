@@ -24,11 +24,17 @@ use std::alloc::Global;
 /// A certificate in shape.
 #[derive(Drop)]
 pub struct Certificate {
+    /// How many sites there are, from 1 to 16.
     pub sites: u32,
+    /// The round's base: a value for each object, of which there are at most 1,024.
     pub base: Vec<i64>,
+    /// The clauses of the treaty, in the order of their numbers.
     pub clauses: Vec<Clause>,
+    /// For each clause, in the same order, a bound for each site.
     pub bounds: Vec<Vec<i64>>,
+    /// The deltas that are frozen.
     pub freezes: Freezes,
+    /// The ground calls, at most 1,024.
     pub calls: Vec<Call>,
 }
 
