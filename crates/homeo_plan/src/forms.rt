@@ -7,14 +7,14 @@ use homeo_syntax::{List, Memory};
 use std::alloc::Global;
 
 /// The delta of an object at a site of a split database. Objects and sites are numbered from 0.
-#[derive(Clone, Copy, Debug, PartialEq, Eq)]
+#[derive(Clone, Copy, Debug, PartialEq, Eq, Hash)]
 pub struct Delta {
     pub object: u32,
     pub site: u32,
 }
 
 /// A delta with the factor by which it is taken.
-#[derive(Clone, Copy, Debug, PartialEq, Eq)]
+#[derive(Clone, Copy, Debug, PartialEq, Eq, Hash)]
 pub struct Term {
     pub delta: Delta,
     pub factor: i128,
