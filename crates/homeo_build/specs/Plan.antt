@@ -1,5 +1,6 @@
 -- Plans of rounds (Roy et al., SIGMOD 2015): what a workload's round that begins at a base is run by.
 use Rattle.std.specs.Prelude.{◌≡◌, ℕ, List, map, ℤ}
+use Rattle.std.specs.declared.sync.Arc.{Arc}
 use Rattle.homeo_syntax.specs.Low.{Commands}
 use Rattle.homeo_syntax.specs.Source as s
 use Rattle.homeo_meaning.specs.Bounds.{IsWithin}
@@ -11,9 +12,12 @@ use Rattle.homeo_plan.specs.Config as config
 use Rattle.homeo_plan.specs.Template.{PlannedCall, base_row}
 use Rattle.homeo_plan.specs.Planned.{sites_of, planned, template_at}
 use Rattle.homeo_plan.specs.PlanView.{plain_residual, plain_template, plain_config}
+use Rattle.homeo_follow.specs.Brought.{brought, plain_part}
 use Rattle.homeo_follow.specs.ObjectPlan.{template_in}
 use Rattle.homeo_follow.specs.declared.plan.ObjectPlan.{ObjectPlan}
+use Rattle.homeo_follow.specs.declared.plan.PlanPart.{PlanPart}
 use Rattle.homeo_build.specs.Key.{definitions}
+use Rattle.homeo_build.specs.Forms.{call_forms}
 
 -- a residual with the site of its call
 pub record SitedResidual : Type 0 where
@@ -41,9 +45,15 @@ pub record IsPlanOf (w : s.Workload) (values : List ℤ) (p : RoundPlan) : Type 
   pub template : plain_template p.template ≡ template_at w values
   pub fits : config.Fits (sites_of w) (template_at w values).clauses (plain_config p.config)
 
+-- what the L forms of a workload bring at a base of these values
+abbrev pub AreParts : {Z : Type 0} → s.Workload → List ℤ → List (Arc PlanPart Z) → Type 0
+unfolding definitions
+AreParts w values parts = map (λ p. plain_part p.value) parts ≡ map (brought (values_of values)) (call_forms w)
+
 -- a workload's plan over whole objects at a base of these values: over the deltas of the sites its template is the one there
 pub record IsObjectPlan (w : s.Workload) (values : List ℤ) (p : ObjectPlan) : Type 0 where
   pub within : IsWithin (schema_of w) values
   pub base : p.base.items ≡ values
+  pub parts : AreParts w values p.parts.items
   pub sites : p.template.sites ≡ sites_of w
   pub template : template_in p ≡ template_at w values

@@ -5,6 +5,7 @@ pub mod PlannedAtoms
 pub mod Residuals
 pub mod Simulated
 pub mod Standing
+pub mod Staying
 pub mod Templated
 pub mod Terms
 pub mod Walked

@@ -1,8 +1,10 @@
+pub mod Brought
 pub mod Expanded
 pub mod Follow
 pub mod FollowSizes
 pub mod Key
 pub mod Lines
+pub mod Named
 pub mod ObjectPlan
 pub mod ObjectTemplate
 pub mod Taken

@@ -19,10 +19,12 @@ ghost use Rattle.homeo_plan.specs.Limit.{form_limit};
 ghost use Rattle.homeo_plan.specs.Needs.{remote};
 ghost use Rattle.homeo_plan.specs.Split.{shift_all};
 ghost use Rattle.homeo_plan.specs.Template.{PlannedCall, atoms_of, base_row, needs_of};
+ghost use Rattle.homeo_follow.specs.Brought.{brought};
 ghost use Rattle.homeo_follow.specs.Expanded.{expanded, expanded_deltas};
 ghost use Rattle.homeo_follow.specs.Follow.{object_forms, follow, followed, needed};
 ghost use Rattle.homeo_follow.specs.FollowSizes.{AreNumbers, CanBeFollowed};
 ghost use Rattle.homeo_follow.specs.Lines.{RunsByLines};
+ghost use Rattle.homeo_follow.specs.Named.{named};
 ghost use Rattle.homeo_follow.specs.ObjectTemplate.{IsByObjects};
 ghost use Rattle.homeo_follow.specs.Taken.{AreTaken, taken};
 
@@ -74,4 +76,9 @@ pub fn accepted_calls_are_followed_by_small_forms()
         IsWithin (schema_of w) base →
         CanBeFollowed (IsSmall form_limit) (object_forms (values_of base)) (ground_form w g) ×
         AreNumbers (IsSmall form_limit) (followed (values_of base) (ground_form w g)).forms }
+{}
+
+/// What a command brings to a plan is the same at two bases that agree on the objects that it names.
+pub fn parts_stay()
+    ensures { (b d : ℕ → ℤ) (c : Command) → Each (λ x. b x ≡ d x) (named c) → brought b c ≡ brought d c }
 {}
