@@ -21,10 +21,8 @@ use Rattle.homeo_plan.specs.Each.{Each}
 use Rattle.homeo_plan.specs.FormSizes.{Numbers}
 use Rattle.homeo_plan.specs.Limit.{form_limit}
 use Rattle.homeo_plan.specs.Linear.{Linear, AreInOrder, base_forms}
-use Rattle.homeo_plan.specs.PlanView.{plain_atoms}
 use Rattle.homeo_plan.specs.Planned.{sites_of, planned_call, planned, template_at}
 use Rattle.homeo_plan.specs.Template.{PlannedCall, Clause, Template, atoms_of, needs_of, clauses_from, atoms_of_sets, put_all}
-use Rattle.homeo_plan.specs.declared.forms.AtomSet.{AtomSet}
 use Rattle.homeo_plan.specs.declared.forms.Delta.{Delta}
 use Rattle.homeo_plan.proofs.AtomClauses.{each_from, each_of_sets}
 use Rattle.homeo_plan.proofs.Covering.{each_map}
@@ -82,25 +80,24 @@ module _ (w : s.Workload) (fs : List Command) where
 abbrev asks : (ℕ → ℤ) → Command → List Linear
 asks b f = (followed b f).atoms
 
--- what is asked along forms, where the lists are lent
+-- what the parts of forms ask, where the list of places is lent
 module _
-    (w : s.Workload) (b : ℕ → ℤ) (fs : List Command) (asked lent : List AtomSet) (places ps : List ℕ) (forms : AreForms w fs places)
-    (are : map plain_atoms asked ≡ map (asks b) fs) (same : lent ≡ asked) (placed : ps ≡ places)
+    {X : Type 0} (atoms : X → List Linear) (w : s.Workload) (b : ℕ → ℤ) (fs : List Command) (parts : List X) (places ps : List ℕ)
+    (forms : AreForms w fs places) (are : map atoms parts ≡ map (asks b) fs) (placed : ps ≡ places)
   where
-    pub sets_asked : atoms_of_sets (map (set_at (map plain_atoms lent)) ps) ≡ followed_atoms b (planned w)
+    pub sets_asked : atoms_of_sets (map (set_at (map atoms parts)) ps) ≡ followed_atoms b (planned w)
     unfolding plan_definitions follow_definitions
     sets_asked =
         ap atoms_of_sets
-        (ap₂ (λ (l : List AtomSet) (ns : List ℕ). map (set_at (map plain_atoms l)) ns) same placed ∙ ap (λ l. map (set_at l) places) are
+        (ap (map (set_at (map atoms parts))) placed ∙ ap (λ l. map (set_at l) places) are
         ∙ sets_there w fs (asks b) (grounds w) places forms.placed
         ∙ sym (map_map (planned_call w) (λ (g : PlannedCall). (followed b g.command).atoms) (grounds w)))
 
-    pub places_within : Each (λ n. n < length lent) ps
+    pub places_within : Each (λ n. n < length parts) ps
     places_within =
-        let count : length asked ≡ length fs = same_length plain_atoms (asks b) asked fs are in
-        subst (λ (l : List AtomSet). Each (λ n. n < length l) ps) (sym same)
-        (subst (λ (ns : List ℕ). Each (λ n. n < length asked) ns) (sym placed)
-        (places_below w fs (length asked) (grounds w) places (sym count) forms.placed))
+        let count : length parts ≡ length fs = same_length atoms (asks b) parts fs are in
+        subst (λ (ns : List ℕ). Each (λ n. n < length parts) ns) (sym placed)
+        (places_below w fs (length parts) (grounds w) places (sym count) forms.placed)
 
 -- ---- small constants
 abbrev HasSmallConstant : Linear → Type 0
@@ -165,10 +162,9 @@ module _ (w : s.Workload) (base : List ℤ) (accepted : IsAccepted w) (within : 
   small_forms (f ∷ fs) h = (small_form f h.0, small_forms fs h.1)
 
   pub small_asked :
-      (fs : List Command) (asked lent : List AtomSet) → Each (IsCallForm w) fs → map plain_atoms asked ≡ map (asks (values_of base)) fs → lent ≡ asked →
-      Each HaveSmallConstants (map plain_atoms lent)
-  small_asked fs asked lent forms are same =
-      subst (Each HaveSmallConstants) (sym (ap (map plain_atoms) same ∙ are)) (small_forms fs forms)
+      {X : Type 0} (atoms : X → List Linear) (fs : List Command) (parts : List X) → Each (IsCallForm w) fs →
+      map atoms parts ≡ map (asks (values_of base)) fs → Each HaveSmallConstants (map atoms parts)
+  small_asked atoms fs parts forms are = subst (Each HaveSmallConstants) (sym are) (small_forms fs forms)
 
   -- ---- the template
   made_by_objects : IsByObjects (sites_of w) (values_of base) (planned w)

@@ -15,14 +15,15 @@ ghost use Rattle.homeo_plan.specs.declared.templates.Config.{Config};
 ghost use Rattle.homeo_plan.specs.Linear.{AreInOrder};
 ghost use Rattle.homeo_follow.specs.ObjectPlan.{config_or, config_in};
 ghost use Rattle.homeo_follow.specs.ObjectTemplate.{expanded_template};
-ghost use Rattle.homeo_build.specs.Plan.{IsPlanOf, IsObjectPlan};
+ghost use Rattle.homeo_build.specs.Plan.{AreParts, IsPlanOf, IsObjectPlan};
 
 use crate::calls::object_template;
 use crate::compiled::Compiled;
+use crate::parts::{parts_after, parts_at};
 use crate::shares::shares;
 use crate::sites::site_count;
 use homeo_config::{split_even, split_weighted};
-use homeo_follow::ObjectPlan;
+use homeo_follow::{ObjectPlan, PlanPart};
 use homeo_meaning::Database;
 use homeo_plan::{Config, RoundPlan, Template};
 use homeo_syntax::{List, Memory};
@@ -77,31 +78,63 @@ pub fn treaties(
 /// # Errors
 ///
 /// `Memory` when out of memory.
-#[tactic(auto, unfolding(crate::specs::Key::definitions))]
 pub fn plan_at(alloc: Global, c: &Compiled, base: &Database) -> Result<Arc<ObjectPlan>, Memory>
     requires within { IsWithin (schema_of (plain_workload c.now)) base.now.items }
     ensures plan { IfOk result (λ p. IsObjectPlan (plain_workload c.now) base.now.items p.value) }
     ensures policy { IfOk result (λ p. config_in p.value ≡ policy (plain_workload c.now) base.now.items) }
 {
-    let plan = object_plan(alloc, c, base)?;
-    Ok(Arc::new(alloc, plan)?)
+    let sites = site_count(c.workload());
+    let parts = parts_at(alloc, c, base)?;
+    object_plan(alloc, c, base, parts, sites)
 }
 
-/// The plan itself.
-fn object_plan(alloc: Global, c: &Compiled, base: &Database) -> Result<ObjectPlan, Memory>
+/// The same plan, made from that of another base of the workload: what a form brings stays, shared with that plan, where no object
+/// that it names has another value. The base must be within the workload's bounds.
+///
+/// # Errors
+///
+/// `Memory` when out of memory.
+pub fn plan_after(
+    alloc: Global,
+    c: &Compiled,
+    last: &ObjectPlan,
+    base: &Database,
+) -> Result<Arc<ObjectPlan>, Memory>
+    requires last { IsObjectPlan (plain_workload c.now) last.now.base.items last.now }
     requires within { IsWithin (schema_of (plain_workload c.now)) base.now.items }
-    ensures plan { IfOk result (IsObjectPlan (plain_workload c.now) base.now.items) }
-    ensures policy { IfOk result (λ p. config_in p ≡ policy (plain_workload c.now) base.now.items) }
+    ensures plan { IfOk result (λ p. IsObjectPlan (plain_workload c.now) base.now.items p.value) }
+    ensures policy { IfOk result (λ p. config_in p.value ≡ policy (plain_workload c.now) base.now.items) }
 {
     let sites = site_count(c.workload());
-    let template = object_template(alloc, c, base, sites)?;
+    let parts = parts_after(alloc, c, last, base)?;
+    object_plan(alloc, c, base, parts, sites)
+}
+
+/// The plan of what the forms bring at a base.
+fn object_plan(
+    alloc: Global,
+    c: &Compiled,
+    base: &Database,
+    parts: List<Arc<PlanPart>>,
+    sites: u32,
+) -> Result<Arc<ObjectPlan>, Memory>
+    requires accepted { IsAccepted (plain_workload c.now) }
+    requires within { IsWithin (schema_of (plain_workload c.now)) base.now.items }
+    requires parts { AreParts (plain_workload c.now) base.now.items parts.items }
+    requires sites { sites ≡ sites_of (plain_workload c.now) }
+    ensures plan { IfOk result (λ p. IsObjectPlan (plain_workload c.now) base.now.items p.value) }
+    ensures policy { IfOk result (λ p. config_in p.value ≡ policy (plain_workload c.now) base.now.items) }
+{
+    let template = object_template(alloc, c, base, parts.as_slice(), sites)?;
     let bounds = bounds_by_weights(alloc, c, &template)?;
     let values = Vec::from_slice(alloc, base.as_slice())?;
-    Ok(ObjectPlan {
+    let plan = ObjectPlan {
         base: List::from_vec(values),
+        parts,
         template,
         bounds,
-    })
+    };
+    Ok(Arc::new(alloc, plan)?)
 }
 
 /// The template of what the ground calls ask and need at a base, over the deltas of the sites.
@@ -114,7 +147,8 @@ fn template_of(alloc: Global, c: &Compiled, base: &Database, sites: u32) -> Resu
     ensures small { IfOk result (λ t. Each (λ c. IsSmall form_limit c.slack) (plain_template t).clauses) }
     ensures order { IfOk result (λ t. AreInOrder t.freezes.items) }
 {
-    let whole = object_template(alloc, c, base, sites)?;
+    let parts = parts_at(alloc, c, base)?;
+    let whole = object_template(alloc, c, base, parts.as_slice(), sites)?;
     at_sites(alloc, &whole)
 }
 

@@ -1,11 +1,16 @@
 -- Over the deltas of the sites the template is the one of the base.
-use Rattle.std.proofs.Common.{ap, ◌∙◌}
+use Rattle.std.proofs.Common.{ap, sym, subst, ◌∙◌}
 use Rattle.std.proofs.lemmas.Result.{IfOk-weaker}
 use Rattle.homeo_syntax.specs.SourceView.{plain_workload}
 use Rattle.homeo_plan.specs.PlanView.{plain_template}
 use Rattle.homeo_follow.specs.ObjectTemplate.{expanded_template}
+use Rattle.homeo_build.specs.Plan.{AreParts}
 use Rattle.homeo_build.proofs.ByObjects.{small_slacks, freezes_in_order}
 use Rattle.homeo_build.proofs.treaties.template_of.Goals as goal
+
+pub object_template-requires-clause-parts : goal.object_template-requires-clause-parts
+object_template-requires-clause-parts c =
+    subst (AreParts (plain_workload c.args.c.now) c.args.base.now.items) (sym c.as_slice.ensures) c.in_ok-parts.ensures
 
 pub returns : goal.returns
 returns c =

@@ -1,0 +1,10 @@
+-- It is what is followed of the form.
+use Rattle.std.proofs.Common.{ap, ◌∙◌}
+use Rattle.homeo_follow.specs.Brought.{plain_part}
+use Rattle.homeo_build.proofs.parts.part_at.Goals as goal
+
+pub follow_at-requires : goal.follow_at-requires
+follow_at-requires c = record { can = c.requires.form.can; left = c.requires.form.left; base = c.requires.base }
+
+pub returns : goal.returns
+returns c = ap plain_part c.in_ok-new.ensures ∙ c.in_ok-part.ensures
