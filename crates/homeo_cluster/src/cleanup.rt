@@ -160,7 +160,8 @@ impl<N: ClusterNaming> Frame<N> {
     {
         self.accepted();
         let gather = gather_row(alloc, book, cells)?;
-        let last = cells[home as usize].plan();
+        // all sites share it
+        let last = cells[0].plan();
         let prepared = prepare(alloc, gather, &self.compiled, last, call, broken)?;
         Ok(prepared)
     }
