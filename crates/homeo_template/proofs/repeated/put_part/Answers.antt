@@ -1,10 +1,9 @@
 -- A part that was met brings no more; else its clauses are put.
-use Rattle.std.proofs.Common.{◌≡◌, false, List, map, ap, sym, subst, ◌∙◌}
+use Rattle.std.proofs.Common.{false, map, ap, sym, subst, ◌∙◌}
 use Rattle.std.specs.Prelude.{slice_index_or}
 use Rattle.std.proofs.lemmas.Result.{on_ok_weaker}
 use Rattle.homeo_meaning.specs.Small.{IsSmall}
 use Rattle.homeo_plan.specs.Each.{Each}
-use Rattle.homeo_plan.specs.declared.forms.AtomSet.{AtomSet}
 use Rattle.homeo_plan.specs.Limit.{form_limit}
 use Rattle.homeo_plan.specs.Linear.{Linear}
 use Rattle.homeo_plan.specs.PlanView.{plain_atom}
