@@ -35,8 +35,10 @@ pub(crate) fn join_clauses(alloc: Global, sets: &[AtomSet]) -> Result<List<Claus
 
 /// How many atoms the sets have, so no fewer than their distinct clauses.
 fn atom_count(sets: &[AtomSet]) -> usize {
-    sets.iter()
-        .fold(0usize, |count, set| count.saturating_add(set.atoms.as_slice().len()))
+    sets.iter().fold(
+        0usize,
+        |count, set| count.saturating_add(set.atoms.as_slice().len()),
+    )
 }
 
 /// The clauses that have these keys.

@@ -46,8 +46,10 @@ pub fn object_clauses(
 
 /// How many atoms the parts have, so no fewer than their distinct clauses.
 fn atom_count(parts: &[Arc<PlanPart>]) -> usize {
-    parts.iter()
-        .fold(0usize, |count, part| count.saturating_add(part.atoms.atoms.as_slice().len()))
+    parts.iter().fold(
+        0usize,
+        |count, part| count.saturating_add(part.atoms.atoms.as_slice().len()),
+    )
 }
 
 /// Puts the clauses of the part at a place behind the others, unless its place was met.
