@@ -118,17 +118,10 @@ one_met met more sets place cs after marked h put = λ n e. subst (λ l. HaveCla
     go n false q e = have_more cs (set_at sets place) (set_at sets n) (h n e)
 
 -- ---- the set at a place
-module _ {X : Type 0} (f : X → List Linear) where
-  pub set_here : (xs : List X) (n : ℕ) (x : X) → n < length xs → x ≡ get_or xs n x → set_at (map f xs) n ≡ f x
-  set_here [] n x l is = absurd (omega (arith, l))
-  set_here (y ∷ xs) zero x l is = ap f (sym is)
-  set_here (y ∷ xs) (suc n) x l is = set_here xs n x (omega (arith, l)) is
-
-  pub each_set : (P : List Linear → Type 0) (xs : List X) (n : ℕ) (x : X) → Each P (map f xs) → n < length xs → x ≡ get_or xs n x → P (f x)
-  unfolding definitions
-  each_set P [] n x h l is = absurd (omega (arith, l))
-  each_set P (y ∷ xs) zero x h l is = subst (λ z. P (f z)) (sym is) h.0
-  each_set P (y ∷ xs) (suc n) x h l is = each_set P xs n x h.1 (omega (arith, l)) is
+pub set_here : {X : Type 0} (f : X → List Linear) (xs : List X) (n : ℕ) (x : X) → n < length xs → x ≡ get_or xs n x → set_at (map f xs) n ≡ f x
+set_here f [] n x l is = absurd (omega (arith, l))
+set_here f (y ∷ xs) zero x l is = ap f (sym is)
+set_here f (y ∷ xs) (suc n) x l is = set_here f xs n x (omega (arith, l)) is
 
 pub each_number : (P : ℕ → Type 0) (ns : List ℕ) (i d : ℕ) → Each P ns → i < length ns → P (get_or ns i d)
 unfolding definitions

@@ -1,16 +1,15 @@
 -- Keys tell clauses apart as the definition does, and the set of them stays beside the clauses.
 use Rattle.homeo_plan.specs.Key.{definitions}
-use Rattle.std.proofs.Common.{◌≡◌, ℕ, ◌≤◌, ℤ, Bool, true, false, cond, ◌&&◌, ◌==◌, List, [], ◌∷◌, ◌++◌, map, length, take, refl, ap, ◌∙◌, arith}
+use Rattle.std.proofs.Common.{◌≡◌, ℤ, Bool, true, false, cond, ◌&&◌, ◌==◌, List, [], ◌∷◌, ◌++◌, map, length, refl, ap, ◌∙◌, arith}
 use Rattle.std.specs.Prelude.{neg_ℤ, ◌||◌, if◌then◌else◌}
 use Rattle.std.specs.Ordering.{int_eq}
 use Rattle.std.specs.List.{list_any}
 use Rattle.std.specs.Cmp.Lexicographic.{pointwise}
 use Rattle.std.proofs.lemmas.Bool.Decides.{nat_tests}
-use Rattle.std.proofs.lemmas.List.{map_push, take_all}
+use Rattle.std.proofs.lemmas.List.{map_push}
 use Rattle.homeo_plan.specs.declared.forms.Term.{Term}
 use Rattle.homeo_plan.specs.declared.forms.Linear as forms
-use Rattle.homeo_plan.specs.declared.templates.Clause.{Clause}
-use Rattle.homeo_plan.specs.PlanView.{plain_clause, plain_linear}
+use Rattle.homeo_plan.specs.PlanView.{plain_linear}
 use Rattle.homeo_plan.specs.Linear.{Linear, is_empty}
 use Rattle.homeo_plan.specs.Template as template
 use Rattle.homeo_plan.specs.Template.{clause_of, same_terms, same_clause, with_clause}
@@ -74,9 +73,3 @@ pub made_key :
     let c : template.Clause = record { terms = terms; slack = negated } in c ≡ clause_of (plain_linear form)
 unfolding definitions
 made_key form terms negated e f = λ i. let c : template.Clause = record { terms = e i; slack = f i } in c
-
--- once all keys have their clauses
-pub all_clauses :
-    (keys : List Key) (made : List Clause) (n : ℕ) → length keys ≤ n → map plain_clause made ≡ map clause_at (take n keys) →
-    map plain_clause made ≡ map clause_at keys
-all_clauses keys made n h p = p ∙ ap (map clause_at) (take_all n keys h)

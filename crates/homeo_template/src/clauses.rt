@@ -26,11 +26,19 @@ pub(crate) fn join_clauses(alloc: Global, sets: &[AtomSet]) -> Result<List<Claus
     requires small { All (λ s. Each (λ a. IsSmall form_limit a.constant) (plain_atoms s)) sets.now }
     ensures { IfOk result (λ cs. map plain_clause cs.items ≡ clauses_from [] (atoms_of_sets (map plain_atoms sets.now))) }
 {
-    let mut distinct = DistinctClauses::new(alloc);
+    let mut distinct = DistinctClauses::with_room(alloc, atom_count(sets))?;
     for set in sets {
         distinct.put_all(set.atoms.as_slice())?;
     }
     clauses_with(alloc, distinct.keys.as_slice())
+}
+
+/// How many atoms the sets have, so no fewer than their distinct clauses.
+fn atom_count(sets: &[AtomSet]) -> usize {
+    sets.iter().fold(
+        0usize,
+        |count, set| count.saturating_add(set.atoms.as_slice().len()),
+    )
 }
 
 /// The clauses that have these keys.
@@ -45,13 +53,12 @@ pub(crate) fn clauses_with(alloc: Global, keys: &[Key<'_>]) -> Result<List<Claus
 }
 
 impl<'a> DistinctClauses<'a> {
-    /// None yet.
-    pub(crate) fn new(alloc: Global) -> DistinctClauses<'a>
-        ensures { clauses_in result ≡ [] }
+    /// None yet, with room for so many.
+    pub(crate) fn with_room(alloc: Global, count: usize) -> Result<DistinctClauses<'a>, Memory>
+        ensures { IfOk result (λ d. clauses_in d ≡ []) }
     {
-        DistinctClauses {
-            keys: IndexSet::new(alloc),
-        }
+        let keys = IndexSet::with_capacity(alloc, count)?;
+        Ok(DistinctClauses { keys })
     }
 
     /// Puts the clauses of atoms behind those that are there.

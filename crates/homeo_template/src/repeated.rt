@@ -36,12 +36,20 @@ pub fn object_clauses(
     ensures { IfOk result (λ cs. map plain_clause cs.items ≡
         clauses_from [] (atoms_of_sets (map (set_at (map (λ p. plain_atoms p.value.atoms) parts.now)) places.now))) }
 {
-    let mut distinct = DistinctClauses::new(alloc);
+    let mut distinct = DistinctClauses::with_room(alloc, atom_count(parts))?;
     let mut met = Vec::new(alloc);
     for place in places {
         put_part(&mut distinct, &mut met, parts, *place)?;
     }
     clauses_with(alloc, distinct.keys.as_slice())
+}
+
+/// How many atoms the parts have, so no fewer than their distinct clauses.
+fn atom_count(parts: &[Arc<PlanPart>]) -> usize {
+    parts.iter().fold(
+        0usize,
+        |count, part| count.saturating_add(part.atoms.atoms.as_slice().len()),
+    )
 }
 
 /// Puts the clauses of the part at a place behind the others, unless its place was met.

@@ -9,8 +9,8 @@ use Rattle.homeo_template.proofs.repeated.object_clauses.Goals as goal
 pub loop-place-init : goal.loop-place-init
 loop-place-init c =
     record {
-      met = none_met c.new-met.result.items (map atoms_of_part c.args.parts.now) (clauses_in c.new-distinct.result) c.new-met.ensures.items;
-      clauses = c.new-distinct.ensures ∙ no-sets;
+      met = none_met c.new-met.result.items (map atoms_of_part c.args.parts.now) (clauses_in c.in_ok-distinct.distinct) c.new-met.ensures.items;
+      clauses = c.in_ok-distinct.ensures ∙ no-sets;
     }
 
 pub put_part-requires-clause-place : goal.put_part-requires-clause-place

@@ -12,7 +12,8 @@ use Rattle.homeo_follow.specs.declared.plan.PlanPart.{PlanPart}
 use Rattle.homeo_template.specs.Places.{set_at}
 use Rattle.homeo_template.specs.inner.Keys.{clauses_in}
 use Rattle.homeo_template.specs.inner.Met.{atoms_of_part}
-use Rattle.homeo_template.proofs.Again.{none_again, one_met, set_here, each_set}
+use Rattle.homeo_template.proofs.Again.{none_again, one_met, set_here}
+use Rattle.homeo_template.proofs.Appending.{each_at}
 use Rattle.homeo_template.proofs.repeated.put_part.Goals as goal
 
 pub returns-then-item_or-clause-clauses : goal.returns-then-item_or-clause-clauses
@@ -26,7 +27,7 @@ put_all-requires c =
     let part = c.index-parts-place in
     subst (λ l. Each (λ (a : Linear). IsSmall form_limit a.constant) (map plain_atom l))
     (sym (c.as_slice-2.ensures ∙ ap (λ (p : PlanPart). p.atoms.atoms.items) c.deref.ensures))
-    (each_set atoms_of_part (Each (λ (a : Linear). IsSmall form_limit a.constant)) c.args.parts.now c.args.place part.result c.requires.small c.requires.place part.is)
+    (each_at atoms_of_part (Each (λ (a : Linear). IsSmall form_limit a.constant)) c.args.parts.now c.args.place part.result c.requires.small c.requires.place part.is)
 
 pub returns-clause-met : goal.returns-clause-met
 returns-clause-met c =
