@@ -2,8 +2,10 @@
 
 ghost use Rattle.std.specs.Prelude.{◌≡◌, ◌<◌};
 ghost use Rattle.homeo_plan.specs.Planned.{sites_of};
+ghost use Rattle.homeo_build.specs.Plan.{IsObjectPlan};
 
 use crate::naming::ClusterNaming;
+use homeo_follow::ObjectPlan;
 use homeo_notes::Holder;
 use homeo_site::Site;
 use std::marker::Model;
@@ -43,6 +45,13 @@ impl<N: ClusterNaming> SiteCell<N> {
         ensures { result.now ≡ self.now.site }
     {
         &self.site
+    }
+
+    /// Lends the plan of the round, which all sites share.
+    pub(crate) fn plan(&self) -> &ObjectPlan
+        ensures { IsObjectPlan N.workload result.now.base.items result.now }
+    {
+        self.site.plan()
     }
 
     /// Gives the site.

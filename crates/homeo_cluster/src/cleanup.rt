@@ -160,7 +160,9 @@ impl<N: ClusterNaming> Frame<N> {
     {
         self.accepted();
         let gather = gather_row(alloc, book, cells)?;
-        let prepared = prepare(alloc, gather, &self.compiled, call, broken)?;
+        // all sites share it
+        let last = cells[0].plan();
+        let prepared = prepare(alloc, gather, &self.compiled, last, call, broken)?;
         Ok(prepared)
     }
 

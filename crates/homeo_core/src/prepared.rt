@@ -18,7 +18,7 @@ ghost use Rattle.homeo_core.specs.Starts.{AreStarts, waits};
 
 use crate::clients::{site_count, site_of};
 use homeo_build::Compiled;
-use homeo_build::treaties::plan_at;
+use homeo_build::treaties::plan_after;
 use homeo_eval::eval_call;
 use homeo_follow::ObjectPlan;
 use homeo_history::{Answer, Closing, Entry, Path, Round, Segment};
@@ -74,8 +74,8 @@ impl Model for Prepared {
 }
 
 /// Ends the round, to which all sites were added: it runs the closing call's program on the gathered database, and makes
-/// the plan of the next round and each site's start in it. It takes all the memory that the end of the round needs, and
-/// changes no site. `broken` is what the call's local step breaks first of its site's treaty.
+/// the plan of the next round, from the one of a round before, and each site's start in it. It takes all the memory that the end
+/// of the round needs, and changes no site. `broken` is what the call's local step breaks first of its site's treaty.
 ///
 /// # Errors
 ///
@@ -84,9 +84,11 @@ pub fn prepare(
     alloc: Global,
     gather: Gather,
     c: &Arc<Compiled>,
+    last: &ObjectPlan,
     call: CallId,
     broken: Broken,
 ) -> Result<Prepared, Memory>
+    requires last { IsObjectPlan (plain_workload c.now.value) last.now.base.items last.now }
     requires sites { gather.added ≡ sites_of (plain_workload c.now.value) }
     requires exists { CallExists (plain_workload c.now.value) call }
     requires within { IsWithin (schema_of (plain_workload c.now.value)) gather.sum }
@@ -106,7 +108,7 @@ pub fn prepare(
         sum: mut next,
     } = gather.into_parts();
     let prints = run_call(alloc, c, call, &mut next)?;
-    let plan = plan_at(alloc, c, &next)?;
+    let plan = plan_after(alloc, c, last, &next)?;
     let (closing, answer) = close_by(alloc, c.workload(), round, call, broken, prints)?;
     Ok(Prepared {
         compiled: Arc::try_clone(c)?,

@@ -130,7 +130,9 @@ pub(crate) fn close_round(
     closed.reserve(1)?;
     let round = closed.as_slice().len() as u64;
     let gather = gather_all(alloc, round, base, sites)?;
-    let mut prepared = prepare(alloc, gather, c, call, broken)?;
+    // all sites share it
+    let last = sites[0].plan();
+    let mut prepared = prepare(alloc, gather, c, last, call, broken)?;
     install_all(&mut prepared, sites);
     let (round, next, answer) = prepared.closed();
     push_reserved(closed, round);

@@ -1,14 +1,12 @@
 -- Lists of deltas: what is put to them, those of terms, and those of other sites.
 use Rattle.homeo_plan.specs.Key.{definitions as plan_definitions}
 use Rattle.std.proofs.Common.{◌≡◌, ℕ, ◌==◌, Bool, true, false, cond, not, ◌||◌, ◌&&◌, List, [], ◌∷◌, ◌++◌, ℤ, pos, ◌+ℤ◌, refl, sym, ap, ap₂, ◌∙◌, true≢false, arith}
-use Rattle.std.specs.List.{list_any}
 use Rattle.std.specs.Ordering.{int_eq}
 use Rattle.std.proofs.lemmas.Int.{ints}
 use Rattle.std.proofs.lemmas.Bool.Decides.{nat_tests}
-use Rattle.homeo_plan.specs.Each.{Each}
 use Rattle.homeo_plan.specs.declared.forms.Delta.{Delta}
 use Rattle.homeo_plan.specs.declared.forms.Term.{Term}
-use Rattle.homeo_plan.specs.Linear.{AreInOrder, same_delta, delta_before, add_delta, add_deltas, deltas_of}
+use Rattle.homeo_plan.specs.Linear.{AreInOrder, same_delta, add_deltas, deltas_of}
 use Rattle.homeo_plan.specs.Needs.{remote}
 use Rattle.homeo_plan.proofs.DeltaLists.{has, has_adds, After, in_order_adds, same_deltas}
 use Rattle.homeo_plan.proofs.Factors.{factor, same_delta_is}

@@ -2,6 +2,7 @@ pub mod Deltas
 pub mod Expansions
 pub mod Needed
 pub mod PlannedAtoms
+pub mod Rebasing
 pub mod Residuals
 pub mod Simulated
 pub mod Standing

@@ -2,8 +2,7 @@
 use Rattle.homeo_meaning.specs.Key.{definitions as meaning_definitions}
 use Rattle.homeo_plan.specs.Key.{definitions as plan_definitions}
 use Rattle.homeo_follow.specs.Key.{definitions}
-use Rattle.std.proofs.Common.{◌≡◌, ℕ, Bool, true, false, cond, not, ◌&&◌, List, [], ◌∷◌, ◌++◌, ℤ, pos, negsuc, int_lt, refl, sym, ap, ap₂, ◌∙◌}
-use Rattle.homeo_syntax.specs.declared.phrase.Compare.{Compare}
+use Rattle.std.proofs.Common.{◌≡◌, ℕ, Bool, true, false, cond, not, ◌&&◌, List, [], ◌∷◌, ◌++◌, ℤ, pos, negsuc, int_lt, refl, ap, ap₂, ◌∙◌}
 use Rattle.homeo_syntax.specs.declared.low.SplitName.{SplitName}
 use Rattle.homeo_syntax.specs.declared.low.SplitName.TheVariants.{Whole, Base, Delta}
 use Rattle.homeo_syntax.specs.Low.{Expr, Exprs, Literal, OfTemp, Read, Sum, Product, Neg, NoExpr, MoreExpr, Test, Cond, True, Not, Comparison, NoTest, MoreTest, Command, Commands, Skip, Assign, Write, Print, Seq, If, NoCommand, MoreCommand}
@@ -12,21 +11,11 @@ use Rattle.homeo_meaning.specs.Meaning.{compared}
 use Rattle.homeo_plan.specs.Atoms.{true_comparison, false_comparison}
 use Rattle.homeo_plan.specs.Each.{Each}
 use Rattle.homeo_plan.specs.Linear.{Linear, add_deltas, support, constant_form, add_forms, scale_form, multiply_forms, Forms, form, sum_form, product_form}
-use Rattle.homeo_plan.specs.declared.forms.Delta as delta
-use Rattle.homeo_follow.specs.Brought.{Brought, brought}
+use Rattle.homeo_follow.specs.Brought.{brought}
 use Rattle.homeo_follow.specs.Follow.{passes_by, holds_by, passed_test, failed_test, passed, failed, Followed, asked, object_of, follow, follow_all, object_form, object_forms, followed, gain, print_needs, write_needs}
 use Rattle.homeo_follow.specs.Named.{named_in_expr, named_in_exprs, named_in_test, named_in_cond, named, named_in_all}
+use Rattle.homeo_plan.proofs.Atoms.{each_append as each_parts}
 use Rattle.homeo_follow.proofs.Terms.{each_append}
-
-each_first : {X : Type 0} (P : X → Type 0) (xs ys : List X) → Each P (xs ++ ys) → Each P xs
-unfolding plan_definitions
-each_first P [] ys h = tt
-each_first P (x ∷ xs) ys h = (h.0, each_first P xs ys h.1)
-
-each_last : {X : Type 0} (P : X → Type 0) (xs ys : List X) → Each P (xs ++ ys) → Each P ys
-unfolding plan_definitions
-each_last P [] ys h = h
-each_last P (x ∷ xs) ys h = each_last P xs ys h.1
 
 module _ (b d : ℕ → ℤ) where
   -- the bases agree on the object
@@ -73,14 +62,14 @@ module _ (b d : ℕ → ℤ) where
       sum_same : (es : Exprs) → Each Agree (named_in_exprs es) → (a c : Linear) → a ≡ c → sum_form f a es ≡ sum_form g c es
       sum_same NoExpr w a c p = p
       sum_same (MoreExpr e es) w a c p =
-          sum_same es (each_last Agree (named_in_expr e) (named_in_exprs es) w) (add_forms (form f e) a) (add_forms (form g e) c)
-          (ap₂ add_forms (form_same e (each_first Agree (named_in_expr e) (named_in_exprs es) w)) p)
+          sum_same es (each_parts Agree (named_in_expr e) (named_in_exprs es) w).1 (add_forms (form f e) a) (add_forms (form g e) c)
+          (ap₂ add_forms (form_same e (each_parts Agree (named_in_expr e) (named_in_exprs es) w).0) p)
 
       product_same : (es : Exprs) → Each Agree (named_in_exprs es) → (a c : Linear) → a ≡ c → product_form f a es ≡ product_form g c es
       product_same NoExpr w a c p = p
       product_same (MoreExpr e es) w a c p =
-          product_same es (each_last Agree (named_in_expr e) (named_in_exprs es) w) (multiply_forms a (form f e)) (multiply_forms c (form g e))
-          (ap₂ multiply_forms p (form_same e (each_first Agree (named_in_expr e) (named_in_exprs es) w)))
+          product_same es (each_parts Agree (named_in_expr e) (named_in_exprs es) w).1 (multiply_forms a (form f e)) (multiply_forms c (form g e))
+          (ap₂ multiply_forms p (form_same e (each_parts Agree (named_in_expr e) (named_in_exprs es) w).0))
 
     -- both sides of a comparison
     record Sides (x y : Expr) : Type 0 where
@@ -90,8 +79,8 @@ module _ (b d : ℕ → ℤ) where
     sides : (x y : Expr) → Each Agree (named_in_expr x ++ named_in_expr y) → Sides x y
     sides x y w =
         record {
-          left = form_same x (each_first Agree (named_in_expr x) (named_in_expr y) w);
-          right = form_same y (each_last Agree (named_in_expr x) (named_in_expr y) w);
+          left = form_same x (each_parts Agree (named_in_expr x) (named_in_expr y) w).0;
+          right = form_same y (each_parts Agree (named_in_expr x) (named_in_expr y) w).1;
         }
 
     -- ---- tests
@@ -107,8 +96,8 @@ module _ (b d : ℕ → ℤ) where
       holds_same : (c : Cond) → Each Agree (named_in_cond c) → holds_by f c ≡ holds_by g c
       holds_same NoTest w = refl
       holds_same (MoreTest t c) w =
-          ap₂ ◌&&◌ (passes_same t (each_first Agree (named_in_test t) (named_in_cond c) w))
-          (holds_same c (each_last Agree (named_in_test t) (named_in_cond c) w))
+          ap₂ ◌&&◌ (passes_same t (each_parts Agree (named_in_test t) (named_in_cond c) w).0)
+          (holds_same c (each_parts Agree (named_in_test t) (named_in_cond c) w).1)
 
     mutual
       unfolding definitions
@@ -127,15 +116,15 @@ module _ (b d : ℕ → ℤ) where
       passed_same : (c : Cond) → Each Agree (named_in_cond c) → passed f c ≡ passed g c
       passed_same NoTest w = refl
       passed_same (MoreTest t c) w =
-          ap₂ ◌++◌ (passed_test_same t (each_first Agree (named_in_test t) (named_in_cond c) w))
-          (passed_same c (each_last Agree (named_in_test t) (named_in_cond c) w))
+          ap₂ ◌++◌ (passed_test_same t (each_parts Agree (named_in_test t) (named_in_cond c) w).0)
+          (passed_same c (each_parts Agree (named_in_test t) (named_in_cond c) w).1)
 
       failed_same : (c : Cond) → Each Agree (named_in_cond c) → failed f c ≡ failed g c
       failed_same NoTest w = refl
       failed_same (MoreTest t c) w =
-          let first = each_first Agree (named_in_test t) (named_in_cond c) w in
+          let first = (each_parts Agree (named_in_test t) (named_in_cond c) w).0 in
           ap (λ u. cond u (failed f c) (failed_test f t)) (passes_same t first)
-          ∙ ap₂ (cond (passes_by g t)) (failed_same c (each_last Agree (named_in_test t) (named_in_cond c) w)) (failed_test_same t first)
+          ∙ ap₂ (cond (passes_by g t)) (failed_same c (each_parts Agree (named_in_test t) (named_in_cond c) w).1) (failed_test_same t first)
 
   -- ---- commands
   -- the same is asked, printed and written, the bases agree on what is written, and the forms are alike
@@ -184,17 +173,17 @@ module _ (b d : ℕ → ℤ) where
         record { atoms = refl; prints = ap (λ a. a ∷ []) (form_same f g h e w); written = refl; agree = tt; forms = h }
     follow_same (Seq cs) w f g h = follow_all_same cs w f g h
     follow_same (If t c e) w f g h =
-        let test = each_first Agree (named_in_cond t) (named c ++ named e) w in
-        let both = each_last Agree (named_in_cond t) (named c ++ named e) w in
+        let test = (each_parts Agree (named_in_cond t) (named c ++ named e) w).0 in
+        let both = (each_parts Agree (named_in_cond t) (named c ++ named e) w).1 in
         same_branch (holds_by f t) (holds_by g t) (passed f t) (passed g t) (failed f t) (failed g t) (follow c f) (follow c g) (follow e f) (follow e g)
         (holds_same f g h t test) (passed_same f g h t test) (failed_same f g h t test)
-        (follow_same c (each_first Agree (named c) (named e) both) f g h) (follow_same e (each_last Agree (named c) (named e) both) f g h)
+        (follow_same c (each_parts Agree (named c) (named e) both).0 f g h) (follow_same e (each_parts Agree (named c) (named e) both).1 f g h)
 
     follow_all_same : (cs : Commands) → Each Agree (named_in_all cs) → (f g : Forms) → Alike f g → Same (follow_all cs f) (follow_all cs g)
     follow_all_same NoCommand w f g h = record { atoms = refl; prints = refl; written = refl; agree = tt; forms = h }
     follow_all_same (MoreCommand c cs) w f g h =
-        let r = follow_same c (each_first Agree (named c) (named_in_all cs) w) f g h in
-        let s = follow_all_same cs (each_last Agree (named c) (named_in_all cs) w) (follow c f).forms (follow c g).forms r.forms in
+        let r = follow_same c (each_parts Agree (named c) (named_in_all cs) w).0 f g h in
+        let s = follow_all_same cs (each_parts Agree (named c) (named_in_all cs) w).1 (follow c f).forms (follow c g).forms r.forms in
         record {
           atoms = ap₂ ◌++◌ r.atoms s.atoms;
           prints = ap₂ ◌++◌ r.prints s.prints;

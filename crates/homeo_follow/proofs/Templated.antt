@@ -143,7 +143,7 @@ module _ (k : ℕ) (b : ℕ → ℤ) where
       each_append IsTidy (followed b g.command).atoms (followed_atoms b gs)
       (follows k g.site h.0.0 b g.command h.0.1 (base_forms b) (object_forms b) (stands_at_base k g.site h.0.0 b)).atoms.tidy (tidy_atoms gs h.1)
 
-  atoms_are : (gs : List PlannedCall) → Each IsPlanned gs → atoms_of_sets (map (atoms_of k b) gs) ≡ map (expanded k) (followed_atoms b gs)
+  pub atoms_are : (gs : List PlannedCall) → Each IsPlanned gs → atoms_of_sets (map (atoms_of k b) gs) ≡ map (expanded k) (followed_atoms b gs)
   unfolding definitions plan_definitions
   atoms_are [] h = refl
   atoms_are (g ∷ gs) h =

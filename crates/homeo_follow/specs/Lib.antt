@@ -7,4 +7,5 @@ pub mod Lines
 pub mod Named
 pub mod ObjectPlan
 pub mod ObjectTemplate
+pub mod Rebased
 pub mod Taken

@@ -18,14 +18,16 @@ ghost use Rattle.homeo_plan.specs.Joined.{Deltas};
 ghost use Rattle.homeo_plan.specs.Limit.{form_limit};
 ghost use Rattle.homeo_plan.specs.Needs.{remote};
 ghost use Rattle.homeo_plan.specs.Split.{shift_all};
-ghost use Rattle.homeo_plan.specs.Template.{PlannedCall, atoms_of, base_row, needs_of};
+ghost use Rattle.homeo_plan.specs.Template.{PlannedCall, atoms_of, base_row, needs_of, Clause, template};
+ghost use Rattle.homeo_plan.specs.declared.forms.Delta.{Delta};
 ghost use Rattle.homeo_follow.specs.Brought.{brought};
 ghost use Rattle.homeo_follow.specs.Expanded.{expanded, expanded_deltas};
 ghost use Rattle.homeo_follow.specs.Follow.{object_forms, follow, followed, needed};
 ghost use Rattle.homeo_follow.specs.FollowSizes.{AreNumbers, CanBeFollowed};
 ghost use Rattle.homeo_follow.specs.Lines.{RunsByLines};
 ghost use Rattle.homeo_follow.specs.Named.{named};
-ghost use Rattle.homeo_follow.specs.ObjectTemplate.{IsByObjects};
+ghost use Rattle.homeo_follow.specs.ObjectTemplate.{expanded_clause, IsByObjects};
+ghost use Rattle.homeo_follow.specs.Rebased.{rebased_clause, rebased};
 ghost use Rattle.homeo_follow.specs.Taken.{AreTaken, taken};
 
 /// The atoms of a ground call over whole objects, at its site and at a base, are those of its command followed by objects, with
@@ -81,4 +83,13 @@ pub fn accepted_calls_are_followed_by_small_forms()
 /// What a command brings to a plan is the same at two bases that agree on the objects that it names.
 pub fn parts_stay()
     ensures { (b d : ℕ → ℤ) (c : Command) → Each (λ x. b x ≡ d x) (named c) → brought b c ≡ brought d c }
+{}
+
+/// Where what each of several ground calls brings at one base is what it brings at another, rebased, so is their template: a
+/// template over whole objects that is the one at the other base is, with rebased clauses, the one at this base.
+pub fn templates_stay()
+    ensures { (k : ℕ) (b d g : ℕ → ℤ) → 1 ≤ k → (gs : List PlannedCall) → Each (λ p. (p.site < k) × IsWhole p.command) gs →
+        Each (λ p. brought d p.command ≡ rebased g (brought b p.command)) gs → (cs : List Clause) (ds : List Delta) →
+        record { clauses = map (expanded_clause k) cs; freezes = ds } ≡ template k b gs →
+        record { clauses = map (expanded_clause k) (map (rebased_clause g) cs); freezes = ds } ≡ template k d gs }
 {}

@@ -10,6 +10,7 @@ ghost use Rattle.homeo_plan.specs.FormSizes.{Numbers, CanForm, CanCond};
 ghost use Rattle.homeo_plan.specs.Limit.{form_limit};
 ghost use Rattle.homeo_plan.specs.Linear.{add_deltas, support};
 ghost use Rattle.homeo_plan.specs.PlanView.{plain_atoms};
+ghost use Rattle.homeo_follow.specs.Brought.{brought, plain_part};
 ghost use Rattle.homeo_follow.specs.Follow.{nothing, and_then, asked, holds_by, follow, follow_all, object_delta, object_forms, object_of, followed, gain, print_needs, write_needs, needed};
 ghost use Rattle.homeo_follow.specs.FollowSizes.{AreNumbers, CanBeFollowed, CanAllBeFollowed};
 ghost use Rattle.homeo_form.specs.Standing.{forms_of};
@@ -17,6 +18,7 @@ ghost use Rattle.homeo_linear.specs.inner.Course.{followed_so};
 ghost use Rattle.homeo_linear.specs.inner.Kept.{kept_cond};
 
 use crate::conditions::condition;
+use homeo_follow::PlanPart;
 use homeo_form::{Form, Standing, deltas_in_order, expression_form};
 use homeo_meaning::Database;
 use homeo_meaning::padded::item_or;
@@ -24,16 +26,6 @@ use homeo_plan::{Atom, AtomSet, Delta, FreezeSet};
 use homeo_split::{Place, place_of, place_of_temp};
 use homeo_syntax::{LCommand, LCond, LExpr, List, Memory, SplitName, Temp};
 use std::alloc::Global;
-
-/// What a command over whole objects asks and needs at a base, whichever site runs it. An object stands for its deltas at all
-/// sites, by the delta that it has at site 0.
-#[derive(Drop)]
-pub struct Followed {
-    /// What its tests ask, in their order.
-    pub atoms: AtomSet,
-    /// What it depends on, so that the deltas of other sites have to be 0 there.
-    pub needs: FreezeSet,
-}
 
 /// A command, as far as it was followed.
 #[derive(Drop)]
@@ -161,13 +153,11 @@ fn follow_all(alloc: Global, commands: &[LCommand], course: &mut Course<'_>) -> 
 /// # Errors
 ///
 /// `Memory` when out of memory.
-pub fn follow_at(alloc: Global, command: &LCommand, base: &Database) -> Result<Followed, Memory>
+pub fn follow_at(alloc: Global, command: &LCommand, base: &Database) -> Result<PlanPart, Memory>
     requires can { CanBeFollowed (IsSmall form_limit) (object_forms (values_of base.now.items)) (plain_lcommand command.now) }
     requires left { AreNumbers (IsSmall form_limit) (followed (values_of base.now.items) (plain_lcommand command.now)).forms }
     requires base { (x : ℕ) → IsSmall form_limit (values_of base.now.items x) }
-    ensures atoms { IfOk result (λ r. plain_atoms r.atoms ≡ (followed (values_of base.now.items) (plain_lcommand command.now)).atoms) }
-    ensures needs { IfOk result (λ r. r.needs.deltas.items ≡
-        needed (values_of base.now.items) (followed (values_of base.now.items) (plain_lcommand command.now))) }
+    ensures { IfOk result (λ p. plain_part p ≡ brought (values_of base.now.items) (plain_lcommand command.now)) }
 {
     let mut course = Course::new(alloc, base.as_slice());
     follow(alloc, command, &mut course)?;
@@ -178,7 +168,7 @@ pub fn follow_at(alloc: Global, command: &LCommand, base: &Database) -> Result<F
         written,
     } = course;
     let needed = needed(alloc, base.as_slice(), &standing, written, prints)?;
-    Ok(Followed {
+    Ok(PlanPart {
         atoms: AtomSet {
             atoms: List::from_vec(atoms),
         },

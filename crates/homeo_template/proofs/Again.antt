@@ -7,9 +7,7 @@ use Rattle.std.specs.Ordering.{int_eq}
 use Rattle.std.proofs.lemmas.Bool.Decides.{nat_tests}
 use Rattle.std.proofs.lemmas.Int.{ints}
 use Rattle.std.proofs.lemmas.List.{take_more, map_push}
-use Rattle.homeo_plan.specs.declared.forms.AtomSet.{AtomSet}
 use Rattle.homeo_plan.specs.declared.forms.Term.{Term}
-use Rattle.homeo_plan.specs.PlanView.{plain_atoms}
 use Rattle.homeo_plan.specs.Each.{Each}
 use Rattle.homeo_plan.specs.Linear.{Linear, is_empty}
 use Rattle.homeo_plan.specs.Template.{Clause, clause_of, same_term, same_terms, same_clause, with_clause, clauses_from, atoms_of_sets}
@@ -120,16 +118,10 @@ one_met met more sets place cs after marked h put = λ n e. subst (λ l. HaveCla
     go n false q e = have_more cs (set_at sets place) (set_at sets n) (h n e)
 
 -- ---- the set at a place
-pub set_here : (sets : List AtomSet) (n : ℕ) (s : AtomSet) → n < length sets → s ≡ get_or sets n s → set_at (map plain_atoms sets) n ≡ plain_atoms s
-set_here [] n s l is = absurd (omega (arith, l))
-set_here (x ∷ sets) zero s l is = ap plain_atoms (sym is)
-set_here (x ∷ sets) (suc n) s l is = set_here sets n s (omega (arith, l)) is
-
-pub each_set : (P : List Linear → Type 0) (sets : List AtomSet) (n : ℕ) (s : AtomSet) → Each P (map plain_atoms sets) → n < length sets → s ≡ get_or sets n s → P (plain_atoms s)
-unfolding definitions
-each_set P [] n s h l is = absurd (omega (arith, l))
-each_set P (x ∷ sets) zero s h l is = subst (λ y. P (plain_atoms y)) (sym is) h.0
-each_set P (x ∷ sets) (suc n) s h l is = each_set P sets n s h.1 (omega (arith, l)) is
+pub set_here : {X : Type 0} (f : X → List Linear) (xs : List X) (n : ℕ) (x : X) → n < length xs → x ≡ get_or xs n x → set_at (map f xs) n ≡ f x
+set_here f [] n x l is = absurd (omega (arith, l))
+set_here f (y ∷ xs) zero x l is = ap f (sym is)
+set_here f (y ∷ xs) (suc n) x l is = set_here f xs n x (omega (arith, l)) is
 
 pub each_number : (P : ℕ → Type 0) (ns : List ℕ) (i d : ℕ) → Each P ns → i < length ns → P (get_or ns i d)
 unfolding definitions

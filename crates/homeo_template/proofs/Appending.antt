@@ -63,11 +63,13 @@ unfolding definitions
 no-mixed out = refl
 
 -- ---- as the code goes on
-pub atom_at : (P : Linear → Type 0) (atoms : List Atom) (i : ℕ) (a : Atom) → Each P (map plain_atom atoms) → i < length atoms → a ≡ get_or atoms i a → P (plain_atom a)
+pub each_at :
+    {X Y : Type 0} (f : X → Y) (P : Y → Type 0) (xs : List X) (i : ℕ) (x : X) →
+    Each P (map f xs) → i < length xs → x ≡ get_or xs i x → P (f x)
 unfolding definitions
-atom_at P [] i a all h is = absurd (omega (arith, h))
-atom_at P (x ∷ atoms) zero a all h is = subst (λ a. P (plain_atom a)) (sym is) all.0
-atom_at P (x ∷ atoms) (suc i) a all h is = atom_at P atoms i a all.1 (omega (arith, h)) is
+each_at f P [] i x all h is = absurd (omega (arith, h))
+each_at f P (y ∷ xs) zero x all h is = subst (λ z. P (f z)) (sym is) all.0
+each_at f P (y ∷ xs) (suc i) x all h is = each_at f P xs i x all.1 (omega (arith, h)) is
 
 -- one more item, in a list that is mapped
 more : {X Y : Type 0} (f : X → Y) (xs : List X) (i : ℕ) (x : X) → i < length xs → x ≡ get_or xs i x → map f (take i xs) ++ f x ∷ [] ≡ map f (take (i + 1) xs)

@@ -1,46 +1,38 @@
 -- Keys tell clauses apart as the definition does, and the set of them stays beside the clauses.
 use Rattle.homeo_plan.specs.Key.{definitions}
-use Rattle.std.proofs.Common.{◌≡◌, ℕ, ◌≤◌, ℤ, Bool, true, false, cond, ◌&&◌, ◌==◌, List, [], ◌∷◌, ◌++◌, map, length, take, refl, ap, ap₂, ◌∙◌, arith}
+use Rattle.std.proofs.Common.{◌≡◌, ℤ, Bool, true, false, cond, ◌&&◌, ◌==◌, List, [], ◌∷◌, ◌++◌, map, length, refl, ap, ◌∙◌, arith}
 use Rattle.std.specs.Prelude.{neg_ℤ, ◌||◌, if◌then◌else◌}
 use Rattle.std.specs.Ordering.{int_eq}
 use Rattle.std.specs.List.{list_any}
 use Rattle.std.specs.Cmp.Lexicographic.{pointwise}
 use Rattle.std.proofs.lemmas.Bool.Decides.{nat_tests}
-use Rattle.std.proofs.lemmas.List.{map_push, take_all}
-use Rattle.homeo_syntax.specs.Listed.{Listed}
+use Rattle.std.proofs.lemmas.List.{map_push}
 use Rattle.homeo_plan.specs.declared.forms.Term.{Term}
 use Rattle.homeo_plan.specs.declared.forms.Linear as forms
-use Rattle.homeo_plan.specs.declared.templates.Clause.{Clause}
-use Rattle.homeo_plan.specs.PlanView.{plain_clause, plain_linear}
+use Rattle.homeo_plan.specs.PlanView.{plain_linear}
 use Rattle.homeo_plan.specs.Linear.{Linear, is_empty}
 use Rattle.homeo_plan.specs.Template as template
 use Rattle.homeo_plan.specs.Template.{clause_of, same_terms, same_clause, with_clause}
-use Rattle.homeo_template.specs.declared.key.TermKey.{TermKey}
 use Rattle.homeo_template.specs.declared.key.Key.{Key}
-use Rattle.homeo_template.specs.inner.Keys.{term_of, clause_at}
+use Rattle.homeo_template.specs.inner.Keys.{clause_at}
 
 -- the tests of the code
-abbrev pub same_term_key : TermKey → TermKey → Bool
-same_term_key a b = (a.object == b.object) && ((a.site == b.site) && int_eq a.factor b.factor)
+abbrev pub term_test : Term → Term → Bool
+term_test a b = ((a.delta.object == b.delta.object) && (a.delta.site == b.delta.site)) && int_eq a.factor b.factor
 
 abbrev pub same_key : Key → Key → Bool
-same_key a b = pointwise same_term_key a.terms.items b.terms.items && int_eq a.slack b.slack
+same_key a b = pointwise term_test a.terms.now b.terms.now && int_eq a.slack b.slack
 
-and-assoc : (a b c : Bool) → (a && (b && c)) ≡ ((a && b) && c)
-and-assoc true b c = refl
-and-assoc false b c = refl
-
-same-terms : (xs ys : List TermKey) → pointwise same_term_key xs ys ≡ same_terms (map term_of xs) (map term_of ys)
+same-terms : (xs ys : List Term) → pointwise term_test xs ys ≡ same_terms xs ys
 unfolding definitions
 same-terms [] [] = refl
 same-terms [] (y ∷ ys) = refl
 same-terms (x ∷ xs) [] = refl
-same-terms (x ∷ xs) (y ∷ ys) =
-    ap₂ (λ a b. a && b) (and-assoc (x.object == y.object) (x.site == y.site) (int_eq x.factor y.factor)) (same-terms xs ys)
+same-terms (x ∷ xs) (y ∷ ys) = ap (λ b. term_test x y && b) (same-terms xs ys)
 
 same-key : (a b : Key) → same_key a b ≡ same_clause (clause_at a) (clause_at b)
 unfolding definitions
-same-key a b = ap (λ c. c && int_eq a.slack b.slack) (same-terms a.terms.items b.terms.items)
+same-key a b = ap (λ c. c && int_eq a.slack b.slack) (same-terms a.terms.now b.terms.now)
 
 any-keys : (k : Key) (ks : List Key) → list_any (same_key k) ks ≡ list_any (same_clause (clause_at k)) (map clause_at ks)
 any-keys k [] = refl
@@ -77,18 +69,7 @@ one_clause cs a e = go a.terms e
     go (t ∷ ts) e = refl
 
 pub made_key :
-    (form : forms.Linear) (terms : List TermKey) (negated : ℤ) → map term_of terms ≡ form.terms.items → negated ≡ neg_ℤ form.constant →
-    let c : template.Clause = record { terms = map term_of terms; slack = negated } in c ≡ clause_of (plain_linear form)
+    (form : forms.Linear) (terms : List Term) (negated : ℤ) → terms ≡ form.terms.items → negated ≡ neg_ℤ form.constant →
+    let c : template.Clause = record { terms = terms; slack = negated } in c ≡ clause_of (plain_linear form)
 unfolding definitions
 made_key form terms negated e f = λ i. let c : template.Clause = record { terms = e i; slack = f i } in c
-
-pub made_clause :
-    (key : Key) (terms : Listed Term) (slack : ℤ) → terms.items ≡ map term_of key.terms.items → slack ≡ key.slack →
-    plain_clause (record { terms = terms; slack = slack }) ≡ clause_at key
-made_clause key terms slack e f = λ i. let c : template.Clause = record { terms = e i; slack = f i } in c
-
--- once all keys have their clauses
-pub all_clauses :
-    (keys : List Key) (made : List Clause) (n : ℕ) → length keys ≤ n → map plain_clause made ≡ map clause_at (take n keys) →
-    map plain_clause made ≡ map clause_at keys
-all_clauses keys made n h p = p ∙ ap (map clause_at) (take_all n keys h)

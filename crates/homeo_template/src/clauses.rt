@@ -17,8 +17,8 @@ use std::alloc::Global;
 
 /// Clauses in the order in which they were first put, each by its key.
 #[derive(Drop)]
-pub(crate) struct DistinctClauses {
-    pub keys: IndexSet<Key>,
+pub(crate) struct DistinctClauses<'a> {
+    pub keys: IndexSet<Key<'a>>,
 }
 
 /// The clauses of the atoms of all sets.
@@ -26,15 +26,23 @@ pub(crate) fn join_clauses(alloc: Global, sets: &[AtomSet]) -> Result<List<Claus
     requires small { All (λ s. Each (λ a. IsSmall form_limit a.constant) (plain_atoms s)) sets.now }
     ensures { IfOk result (λ cs. map plain_clause cs.items ≡ clauses_from [] (atoms_of_sets (map plain_atoms sets.now))) }
 {
-    let mut distinct = DistinctClauses::new(alloc);
+    let mut distinct = DistinctClauses::with_room(alloc, atom_count(sets))?;
     for set in sets {
-        distinct.put_all(alloc, set.atoms.as_slice())?;
+        distinct.put_all(set.atoms.as_slice())?;
     }
     clauses_with(alloc, distinct.keys.as_slice())
 }
 
+/// How many atoms the sets have, so no fewer than their distinct clauses.
+fn atom_count(sets: &[AtomSet]) -> usize {
+    sets.iter().fold(
+        0usize,
+        |count, set| count.saturating_add(set.atoms.as_slice().len()),
+    )
+}
+
 /// The clauses that have these keys.
-pub(crate) fn clauses_with(alloc: Global, keys: &[Key]) -> Result<List<Clause>, Memory>
+pub(crate) fn clauses_with(alloc: Global, keys: &[Key<'_>]) -> Result<List<Clause>, Memory>
     ensures { IfOk result (λ cs. map plain_clause cs.items ≡ map clause_at keys.now) }
 {
     let mut clauses = Vec::with_capacity(alloc, keys.len())?;
@@ -44,37 +52,35 @@ pub(crate) fn clauses_with(alloc: Global, keys: &[Key]) -> Result<List<Clause>, 
     Ok(List::from_vec(clauses))
 }
 
-impl DistinctClauses {
-    /// None yet.
-    pub(crate) fn new(alloc: Global) -> DistinctClauses
-        ensures { clauses_in result ≡ [] }
+impl<'a> DistinctClauses<'a> {
+    /// None yet, with room for so many.
+    pub(crate) fn with_room(alloc: Global, count: usize) -> Result<DistinctClauses<'a>, Memory>
+        ensures { IfOk result (λ d. clauses_in d ≡ []) }
     {
-        DistinctClauses {
-            keys: IndexSet::new(alloc),
-        }
+        let keys = IndexSet::with_capacity(alloc, count)?;
+        Ok(DistinctClauses { keys })
     }
 
     /// Puts the clauses of atoms behind those that are there.
-    pub(crate) fn put_all(&mut self, alloc: Global, atoms: &[Atom]) -> Result<(), Memory>
+    pub(crate) fn put_all(&mut self, atoms: &'a [Atom]) -> Result<(), Memory>
         requires { Each (λ a. IsSmall form_limit a.constant) (map plain_atom atoms.now) }
         ensures { OnOk result (clauses_in self.new ≡ clauses_from (clauses_in self.old) (map plain_atom atoms.now)) }
     {
         for atom in atoms {
-            self.put(alloc, &atom.form)?;
+            self.put(&atom.form)?;
         }
         Ok(())
     }
 
     /// Puts the clause of an atom with this form behind the others, where it has one that isn't there.
-    fn put(&mut self, alloc: Global, form: &Linear) -> Result<(), Memory>
+    fn put(&mut self, form: &'a Linear) -> Result<(), Memory>
         requires { IsSmall form_limit form.now.constant }
         ensures { OnOk result (clauses_in self.new ≡ with_clause (clauses_in self.old) (plain_linear form.now)) }
     {
         if form.terms.as_slice().is_empty() {
             return Ok(());
         }
-        let key = key_of(alloc, form)?;
-        let _is_new = self.keys.insert(key)?;
+        let _is_new = self.keys.insert(key_of(form))?;
         Ok(())
     }
 }

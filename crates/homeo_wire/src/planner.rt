@@ -4,10 +4,12 @@ ghost use Rattle.std.specs.Prelude.{◌≡◌, ◌<◌, IfOk};
 ghost use Rattle.homeo_syntax.specs.SourceView.{plain_workload};
 ghost use Rattle.homeo_meaning.specs.Bounds.{IsWithin};
 ghost use Rattle.homeo_meaning.specs.Schema.{schema_of};
-ghost use Rattle.homeo_plan.specs.Planned.{sites_of};
+ghost use Rattle.homeo_plan.specs.Planned.{sites_of, policy};
+ghost use Rattle.homeo_follow.specs.ObjectPlan.{config_in};
+ghost use Rattle.homeo_build.specs.Plan.{IsObjectPlan};
 
 use homeo_build::Compiled;
-use homeo_build::treaties::plan_at;
+use homeo_build::treaties::{plan_after, plan_at};
 use homeo_follow::ObjectPlan;
 use homeo_meaning::Database;
 use homeo_site::SiteStart;
@@ -58,8 +60,20 @@ impl Planner {
         &self.compiled
     }
 
-    /// The start of a site in the round of this number, which begins at a base within the workload's bounds. The plan is made where
-    /// the one made last is of another base.
+    /// The plan of a round that begins at a base, made from the one made last, if there is one.
+    fn plan(&self, alloc: Global, base: &Database) -> Result<Arc<ObjectPlan>, Memory>
+        requires { IsWithin (schema_of (plain_workload self.now)) base.now.items }
+        ensures plan { IfOk result (λ p. IsObjectPlan (plain_workload self.now) base.now.items p.value) }
+        ensures policy { IfOk result (λ p. config_in p.value ≡ policy (plain_workload self.now) base.now.items) }
+    {
+        match &self.last {
+            Some(last) => plan_after(alloc, &self.compiled, last, base),
+            None => plan_at(alloc, &self.compiled, base),
+        }
+    }
+
+    /// The start of a site in the round of this number, which begins at a base within the workload's bounds. Where the plan
+    /// made last is of another base, one is made from it.
     ///
     /// # Errors
     ///
@@ -81,7 +95,7 @@ impl Planner {
                 return SiteStart::new(alloc, &self.compiled, plan, site, round);
             }
         }
-        let plan = plan_at(alloc, &self.compiled, base)?;
+        let plan = self.plan(alloc, base)?;
         let start = SiteStart::new(alloc, &self.compiled, &plan, site, round)?;
         self.last = Some(plan);
         Ok(start)

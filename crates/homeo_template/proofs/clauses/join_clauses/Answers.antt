@@ -4,7 +4,7 @@ use Rattle.homeo_template.proofs.Appending.{no-sets, sets_more}
 use Rattle.homeo_template.proofs.clauses.join_clauses.Goals as goal
 
 pub loop-set-init : goal.loop-set-init
-loop-set-init c = c.new-distinct.ensures ∙ no-sets
+loop-set-init c = c.in_ok-distinct.ensures ∙ no-sets
 
 pub loop-set-preserved : goal.loop-set-preserved
 loop-set-preserved c =

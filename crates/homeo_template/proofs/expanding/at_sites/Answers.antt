@@ -1,5 +1,5 @@
 -- The clauses at the sites, and the same freezes.
-use Rattle.std.proofs.Common.{◌≡◌, List, map, ap, ap₂, ◌∙◌}
+use Rattle.std.proofs.Common.{List, map, ap, ap₂, ◌∙◌}
 use Rattle.homeo_plan.specs.PlanView.{plain_clause}
 use Rattle.homeo_plan.specs.Template as template
 use Rattle.homeo_plan.specs.declared.forms.Delta.{Delta}

@@ -13,6 +13,6 @@ returns-then-is_empty c =
 pub returns : goal.returns
 returns c =
     let cs = clauses_in c.args.self.now in
-    ap (map clause_at) c.in_ok-_is_new.ensures.keys ∙ key_put c.args.self.now.keys.keys c.in_ok-key.key
-    ∙ ap (λ k. after k cs) c.in_ok-key.ensures
+    ap (map clause_at) c.in_ok-_is_new.ensures.keys ∙ key_put c.args.self.now.keys.keys c.key_of.result
+    ∙ ap (λ k. after k cs) c.key_of.ensures
     ∙ one_clause cs (plain_linear c.args.form.now) (ap (λ l. length l == 0) (sym c.as_slice.ensures) ∙ sym c.is_empty.ensures ∙ c.if-is_empty.false)
