@@ -117,6 +117,13 @@ unfolding plan_definitions
 each_made P Q f give [] all = tt
 each_made P Q f give (x ∷ xs) all = (give x (All-head P x xs all), each_made P Q f give xs (All-tail P x xs all))
 
+-- the ground calls are at sites, over whole objects
+pub are_planned : (w : s.Workload) → IsAccepted w → Each (λ (g : PlannedCall). (g.site < sites_of w) × IsWhole g.command) (planned w)
+unfolding plan_definitions
+are_planned w accepted =
+    each_made (CanCompile w) (λ (g : PlannedCall). (g.site < sites_of w) × IsWhole g.command) (planned_call w)
+    (λ g can. (can.site, ground_whole w g)) (grounds w) (can_compile w accepted)
+
 module _ (w : s.Workload) (base : List ℤ) (accepted : IsAccepted w) (within : IsWithin (schema_of w) base) where
   some : 1 ≤ sites_of w
   unfolding plan_definitions
@@ -168,11 +175,7 @@ module _ (w : s.Workload) (base : List ℤ) (accepted : IsAccepted w) (within : 
 
   -- ---- the template
   made_by_objects : IsByObjects (sites_of w) (values_of base) (planned w)
-  unfolding plan_definitions
-  made_by_objects =
-      by_objects (sites_of w) (values_of base) some (planned w)
-      (each_made (CanCompile w) (λ (g : PlannedCall). (g.site < sites_of w) × IsWhole g.command) (planned_call w)
-      (λ g can. (can.site, ground_whole w g)) (grounds w) (can_compile w accepted))
+  made_by_objects = by_objects (sites_of w) (values_of base) some (planned w) (are_planned w accepted)
 
   in_order : AreInOrder (template_at w base).freezes
   unfolding plan_definitions

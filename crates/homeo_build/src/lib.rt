@@ -9,6 +9,7 @@ mod freezes;
 mod frozen;
 pub mod laws;
 mod parts;
+mod rebased;
 pub mod residuals;
 pub mod shares;
 mod sites;

@@ -20,6 +20,7 @@ ghost use Rattle.homeo_build.specs.Plan.{AreParts, IsPlanOf, IsObjectPlan};
 use crate::calls::object_template;
 use crate::compiled::Compiled;
 use crate::parts::{parts_after, parts_at};
+use crate::rebased::template_after;
 use crate::shares::shares;
 use crate::sites::site_count;
 use homeo_config::{split_even, split_weighted};
@@ -85,11 +86,13 @@ pub fn plan_at(alloc: Global, c: &Compiled, base: &Database) -> Result<Arc<Objec
 {
     let sites = site_count(c.workload());
     let parts = parts_at(alloc, c, base)?;
-    object_plan(alloc, c, base, parts, sites)
+    let template = object_template(alloc, c, base, parts.as_slice(), sites)?;
+    object_plan(alloc, c, base, parts, template)
 }
 
 /// The same plan, made from that of another base of the workload: what a form brings stays, shared with that plan, where no object
-/// that it names has another value. The base must be within the workload's bounds.
+/// that it names has another value; and where all forms bring what they brought there, but for what the objects gained, so does the
+/// template but for its slacks. The base must be within the workload's bounds.
 ///
 /// # Errors
 ///
@@ -107,25 +110,26 @@ pub fn plan_after(
 {
     let sites = site_count(c.workload());
     let parts = parts_after(alloc, c, last, base)?;
-    object_plan(alloc, c, base, parts, sites)
+    let template = template_after(alloc, c, last, base, parts.as_slice(), sites)?;
+    object_plan(alloc, c, base, parts, template)
 }
 
-/// The plan of what the forms bring at a base.
+/// The plan of what the forms bring at a base, and of the template of that.
 fn object_plan(
     alloc: Global,
     c: &Compiled,
     base: &Database,
     parts: List<Arc<PlanPart>>,
-    sites: u32,
+    template: Template,
 ) -> Result<Arc<ObjectPlan>, Memory>
     requires accepted { IsAccepted (plain_workload c.now) }
     requires within { IsWithin (schema_of (plain_workload c.now)) base.now.items }
     requires parts { AreParts (plain_workload c.now) base.now.items parts.items }
-    requires sites { sites ≡ sites_of (plain_workload c.now) }
+    requires sites { template.sites ≡ sites_of (plain_workload c.now) }
+    requires template { expanded_template template.sites (plain_template template) ≡ template_at (plain_workload c.now) base.now.items }
     ensures plan { IfOk result (λ p. IsObjectPlan (plain_workload c.now) base.now.items p.value) }
     ensures policy { IfOk result (λ p. config_in p.value ≡ policy (plain_workload c.now) base.now.items) }
 {
-    let template = object_template(alloc, c, base, parts.as_slice(), sites)?;
     let bounds = bounds_by_weights(alloc, c, &template)?;
     let values = Vec::from_slice(alloc, base.as_slice())?;
     let plan = ObjectPlan {

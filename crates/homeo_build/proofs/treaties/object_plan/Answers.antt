@@ -1,29 +1,24 @@
--- The template is made over whole objects, and its bounds are those of the policy.
+-- The plan keeps the template, and its bounds are those of the policy.
 use Rattle.std.proofs.Common.{ap, subst, sym, ◌∙◌}
 use Rattle.homeo_syntax.specs.SourceView.{plain_workload}
 use Rattle.homeo_plan.specs.PlanView.{plain_template}
 use Rattle.homeo_follow.specs.Key.{definitions}
 use Rattle.homeo_follow.specs.ObjectTemplate.{expanded_template}
 use Rattle.homeo_follow.specs.ObjectPlan.{config_in}
-use Rattle.homeo_build.specs.Plan.{AreParts, IsObjectPlan}
+use Rattle.homeo_build.specs.Plan.{IsObjectPlan}
 use Rattle.homeo_build.proofs.ByObjects.{small_slacks}
 use Rattle.homeo_build.proofs.PlanParts.{has_slack, policy_is}
 use Rattle.homeo_build.proofs.treaties.object_plan.Goals as goal
-
-pub object_template-requires-clause-parts : goal.object_template-requires-clause-parts
-object_template-requires-clause-parts c =
-    subst (AreParts (plain_workload c.args.c.now) c.args.base.now.items) (sym c.as_slice.ensures) c.requires.parts
 
 pub bounds_by_weights-requires : goal.bounds_by_weights-requires
 bounds_by_weights-requires c =
     let w = plain_workload c.args.c.now in
     let base = c.args.base.now.items in
-    let t = c.in_ok-template.template in
-    let there = ap (λ k. expanded_template k (plain_template t)) c.in_ok-template.ensures.sites ∙ c.in_ok-template.ensures.template in
+    let t = c.args.template in
     record {
-      sites = c.in_ok-template.ensures.sites ∙ c.requires.sites;
-      not_negative = has_slack w base (expanded_template t.sites (plain_template t)) there;
-      small = small_slacks w base c.requires.accepted c.requires.within (expanded_template t.sites (plain_template t)) there;
+      sites = c.requires.sites;
+      not_negative = has_slack w base (expanded_template t.sites (plain_template t)) c.requires.template;
+      small = small_slacks w base c.requires.accepted c.requires.within (expanded_template t.sites (plain_template t)) c.requires.template;
     }
 
 pub returns : goal.returns
@@ -31,15 +26,14 @@ unfolding definitions
 returns c =
     let w = plain_workload c.args.c.now in
     let base = c.args.base.now.items in
-    let t = c.in_ok-template.template in
-    let there = ap (λ k. expanded_template k (plain_template t)) c.in_ok-template.ensures.sites ∙ c.in_ok-template.ensures.template in
+    let t = c.args.template in
     record {
       plan = subst (IsObjectPlan w base) (sym c.in_ok-new.ensures) (record {
         within = c.requires.within;
-        base = ap (λ l. l.items) c.from_vec.ensures ∙ c.in_ok-values.ensures.items ∙ c.as_slice-2.ensures;
+        base = ap (λ l. l.items) c.from_vec.ensures ∙ c.in_ok-values.ensures.items ∙ c.as_slice.ensures;
         parts = c.requires.parts;
-        sites = c.in_ok-template.ensures.sites ∙ c.requires.sites;
-        template = there;
+        sites = c.requires.sites;
+        template = c.requires.template;
       });
-      policy = ap config_in c.in_ok-new.ensures ∙ c.in_ok-bounds.ensures ∙ policy_is w base (expanded_template t.sites (plain_template t)) there;
+      policy = ap config_in c.in_ok-new.ensures ∙ c.in_ok-bounds.ensures ∙ policy_is w base (expanded_template t.sites (plain_template t)) c.requires.template;
     }

@@ -1,0 +1,60 @@
+-- Where the forms bring at a base what they brought to a plan, rebased, its template with rebased clauses is the one there.
+use Rattle.homeo_plan.specs.Key.{definitions as plan_definitions}
+use Rattle.homeo_follow.specs.Key.{definitions as follow_definitions}
+use Rattle.homeo_build.specs.Key.{definitions}
+use Rattle.std.proofs.Common.{◌≡◌, ℕ, zero, suc, List, [], ◌∷◌, map, Some, ℤ, sym, ap, subst, ◌∙◌}
+use Rattle.std.specs.Prelude.{slice_get}
+use Rattle.homeo_syntax.specs.Low.{Command}
+use Rattle.homeo_syntax.specs.Source as s
+use Rattle.homeo_meaning.specs.Acceptance.{IsAccepted}
+use Rattle.homeo_meaning.specs.CallForm.{ground_form}
+use Rattle.homeo_meaning.specs.Ground.{Ground, grounds}
+use Rattle.homeo_meaning.specs.Serial.{values_of}
+use Rattle.homeo_plan.specs.Each.{Each}
+use Rattle.homeo_plan.specs.Planned.{sites_of, planned_call, planned, template_at}
+use Rattle.homeo_plan.specs.Template.{PlannedCall, Clause, Template}
+use Rattle.homeo_follow.specs.Brought.{Brought, brought}
+use Rattle.homeo_follow.specs.ObjectTemplate.{expanded_template}
+use Rattle.homeo_follow.specs.Rebased.{rebased_clause, rebased, gains}
+use Rattle.homeo_follow.proofs.Rebasing.{templates_stay}
+use Rattle.homeo_build.specs.Forms.{call_forms, HaveForms, AreForms}
+use Rattle.homeo_build.proofs.ByObjects.{are_planned}
+use Rattle.homeo_build.proofs.FewSites.{sites_few}
+use Rattle.homeo_build.proofs.Grown.{map_map}
+
+-- what is the same of all forms is so of the one at a place
+same_there : {X : Type 0} (f h : Command → X) (fs : List Command) (n : ℕ) (c : Command) → map f fs ≡ map h fs → slice_get fs n ≡ Some c → f c ≡ h c
+same_there f h [] n c e at = cc
+same_there f h (d ∷ fs) zero c e at = let same : d ≡ c = cc in let head : f d ≡ h d = cc in subst (λ x. f x ≡ h x) same head
+same_there f h (d ∷ fs) (suc n) c e at = let tail : map f fs ≡ map h fs = cc in same_there f h fs n c tail at
+
+module _ (w : s.Workload) (fs : List Command) (places : List ℕ) (forms : AreForms w fs places) (accepted : IsAccepted w) (b d : List ℤ) where
+  abbrev gain : ℕ → ℤ
+  gain = gains (values_of b) (values_of d)
+
+  abbrev Stays : PlannedCall → Type 0
+  Stays p = brought (values_of d) p.command ≡ rebased gain (brought (values_of b) p.command)
+
+  calls_stay :
+      map (brought (values_of d)) fs ≡ map (λ c. rebased gain (brought (values_of b) c)) fs → (gs : List Ground) (ns : List ℕ) →
+      HaveForms w fs gs ns → Each Stays (map (planned_call w) gs)
+  unfolding definitions plan_definitions
+  calls_stay e [] [] h = tt
+  calls_stay e [] (n ∷ ns) h = absurd h
+  calls_stay e (g ∷ gs) [] h = absurd h
+  calls_stay e (g ∷ gs) (n ∷ ns) h =
+      (same_there (brought (values_of d)) (λ c. rebased gain (brought (values_of b) c)) fs n (ground_form w g) e h.0, calls_stay e gs ns h.1)
+
+  pub template_rebased :
+      {X : Type 0} (part : X → Brought) (old new : List X) → map part old ≡ map (brought (values_of b)) (call_forms w) →
+      map part new ≡ map (brought (values_of d)) (call_forms w) → map part new ≡ map (rebased gain) (map part old) →
+      (t : Template) (cs : List Clause) → expanded_template (sites_of w) t ≡ template_at w b → cs ≡ map (rebased_clause gain) t.clauses →
+      let u : Template = record { clauses = cs; freezes = t.freezes } in expanded_template (sites_of w) u ≡ template_at w d
+  unfolding plan_definitions follow_definitions
+  template_rebased part old new before after moved t cs is rebased_is =
+      let forms_same : map (brought (values_of d)) fs ≡ map (λ c. rebased gain (brought (values_of b) c)) fs =
+        subst (λ l. map (brought (values_of d)) l ≡ map (λ c. rebased gain (brought (values_of b) c)) l) (sym forms.are)
+        (sym after ∙ moved ∙ ap (map (rebased gain)) before ∙ map_map (brought (values_of b)) (rebased gain) (call_forms w)) in
+      ap (λ (l : List Clause). let u : Template = record { clauses = l; freezes = t.freezes } in expanded_template (sites_of w) u) rebased_is
+      ∙ templates_stay (sites_of w) (values_of b) (values_of d) gain (sites_few w accepted).some (planned w) (are_planned w accepted)
+      (calls_stay forms_same (grounds w) places forms.placed) t.clauses t.freezes is
