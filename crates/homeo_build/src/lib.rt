@@ -8,6 +8,7 @@ mod forms;
 mod freezes;
 mod frozen;
 pub mod laws;
+mod names;
 mod parts;
 mod rebased;
 pub mod residuals;
