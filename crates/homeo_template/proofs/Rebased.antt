@@ -1,8 +1,11 @@
 -- What is asked at one base and at another, item by item.
 use Rattle.homeo_plan.specs.Key.{definitions as plan_definitions}
 use Rattle.homeo_follow.specs.Key.{definitions}
-use Rattle.std.proofs.Common.{◌≡◌, ℕ, zero, suc, ◌+◌, ◌<◌, ◌≤◌, ◌==◌, Bool, true, ◌&&◌, List, [], ◌∷◌, ◌++◌, map, length, take, drop, get_or, ℤ, pos, ◌+ℤ◌, ◌*ℤ◌, refl, sym, ap, ap₂, ◌∙◌, arith}
+use Rattle.std.proofs.Common.{◌≡◌, ℕ, zero, suc, ◌+◌, ◌<◌, ◌≤◌, ◌==◌, Bool, true, ◌&&◌, List, [], ◌∷◌, ◌++◌, map, length, take, drop, get_or, ℤ, pos, ◌+ℤ◌, ◌-ℤ◌, ◌*ℤ◌, neg_ℤ, Option, None, Some, SomeIff, IfSome, FitsSigned, refl, sym, ap, ap₂, ◌∙◌, arith}
+use mir.Syntax.{w128}
 use Rattle.std.specs.Ordering.{int_eq}
+use Rattle.std.specs.Option.{option_eq}
+use Rattle.std.proofs.Math.IntN.{+ℤ_assoc, +ℤ_idl, +ℤ_idr}
 use Rattle.std.specs.Cmp.Lexicographic.{pointwise}
 use Rattle.std.proofs.lemmas.Int.{ints}
 use Rattle.std.proofs.lemmas.Bool.{and_parts}
@@ -16,7 +19,7 @@ use Rattle.homeo_template.proofs.Keys.{term_test}
 -- ---- sums of what objects gained
 module _ (g : ℕ → ℤ) where
   pub gained_none : (ts : List Term) → pos 0 +ℤ gained g (drop 0 ts) ≡ gained g ts
-  gained_none ts = grind (arith, ints)
+  gained_none ts = +ℤ_idl (gained g ts)
 
   pub gained_more :
       (ts : List Term) (i : ℕ) (d : Term) (sum more : ℤ) → i < length ts → sum +ℤ gained g (drop i ts) ≡ gained g ts →
@@ -25,19 +28,35 @@ module _ (g : ℕ → ℤ) where
   gained_more ts i d sum more lt so_far next =
       let t : Term = get_or ts i d in
       ap (λ z. z +ℤ gained g (drop (i + 1) ts)) next
-      ∙ moved sum (t.factor *ℤ g t.delta.object) (gained g (drop (i + 1) ts))
+      ∙ +ℤ_assoc sum (t.factor *ℤ g t.delta.object) (gained g (drop (i + 1) ts))
       ∙ ap (λ z. sum +ℤ z) (sym (at_drop_more (gained g) ts i d lt))
       ∙ so_far
-    where
-      moved : (a b c : ℤ) → (a +ℤ b) +ℤ c ≡ a +ℤ (b +ℤ c)
-      moved a b c = grind (arith, ints)
 
   pub gained_all : (ts : List Term) (i : ℕ) (sum : ℤ) → length ts ≤ i → sum +ℤ gained g (drop i ts) ≡ gained g ts → sum ≡ gained g ts
   unfolding definitions
-  gained_all ts i sum past so_far = sym (ap (λ z. sum +ℤ z) (at_drop_all (gained g) ts i past) ∙ none sum) ∙ so_far
-    where
-      none : (n : ℤ) → n +ℤ pos 0 ≡ n
-      none n = grind (arith, ints)
+  gained_all ts i sum past so_far = sym (ap (λ z. sum +ℤ z) (at_drop_all (gained g) ts i past) ∙ +ℤ_idr sum) ∙ so_far
+
+-- ---- a number that is checked to be in range
+int_same : (m n : ℤ) → int_eq m n ≡ true → m ≡ n
+int_same m n h = grind (arith, ints, h)
+
+-- the numbers as the code reads them are those that they stand for
+pub found_sum :
+    (r : Option ℤ) (a b n constant more new : ℤ) → SomeIff r (FitsSigned w128 (a +ℤ b)) (a +ℤ b) → option_eq int_eq r (Some n) ≡ true →
+    a ≡ constant → b ≡ more → n ≡ new → new ≡ constant +ℤ more
+found_sum None a b n constant more new is same p q s = absurd cc
+found_sum (Some x) a b n constant more new is same p q s = sym s ∙ sym (int_same x n same) ∙ is.1 ∙ ap₂ ◌+ℤ◌ p q
+
+pub found_product :
+    (r : Option ℤ) (a b factor gain : ℤ) → SomeIff r (FitsSigned w128 (a *ℤ b)) (a *ℤ b) → a ≡ factor → b ≡ gain → IfSome r (λ n. n ≡ factor *ℤ gain)
+found_product None a b factor gain is p q = tt
+found_product (Some x) a b factor gain is p q = is.1 ∙ ap₂ ◌*ℤ◌ p q
+
+pub slack_left :
+    (r : Option ℤ) (a b slack gone : ℤ) → SomeIff r (FitsSigned w128 (a -ℤ b)) (a -ℤ b) → a ≡ slack → b ≡ gone →
+    IfSome r (λ s. s ≡ slack +ℤ neg_ℤ gone)
+slack_left None a b slack gone is p q = tt
+slack_left (Some x) a b slack gone is p q = is.1 ∙ ap₂ ◌-ℤ◌ p q
 
 -- ---- lists whose items are found equal
 abbrev pub delta_test : Delta → Delta → Bool
@@ -54,8 +73,7 @@ delta_same a b h =
 term_same : (a b : Term) → term_test a b ≡ true → a ≡ b
 term_same a b h =
     let parts = and_parts (delta_test a.delta b.delta) (int_eq a.factor b.factor) h in
-    let factors : a.factor ≡ b.factor = grind (arith, ints, parts.1) in
-    ap₂ (λ d f. record { delta = d; factor = f }) (delta_same a.delta b.delta parts.0) factors
+    ap₂ (λ d f. record { delta = d; factor = f }) (delta_same a.delta b.delta parts.0) (int_same a.factor b.factor parts.1)
 
 each_same : {X : Type 0} (test : X → X → Bool) → ((a b : X) → test a b ≡ true → a ≡ b) → (xs ys : List X) → pointwise test xs ys ≡ true → xs ≡ ys
 each_same test is [] [] h = refl
