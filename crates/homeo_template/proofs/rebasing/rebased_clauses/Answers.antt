@@ -4,7 +4,7 @@ use Rattle.homeo_meaning.specs.Serial.{values_of}
 use Rattle.homeo_plan.specs.PlanView.{plain_clause}
 use Rattle.homeo_follow.specs.Rebased.{rebased_clause, gains}
 use Rattle.std.proofs.lemmas.List.{take_all}
-use Rattle.homeo_template.proofs.Rebased.{map_twice}
+use Rattle.homeo_meaning.proofs.TakenItems.{map_twice}
 use Rattle.homeo_template.proofs.rebasing.rebased_clauses.Goals as goal
 
 pub returns : goal.returns
@@ -13,4 +13,4 @@ returns c =
     ap (λ l. map plain_clause l.items) c.from_vec.ensures
     ∙ c.loop-clause.invariant
     ∙ ap (map (λ d. rebased_clause g (plain_clause d))) (take_all c.loop-clause.clause-index c.args.clauses.now c.loop-clause-test.false)
-    ∙ sym (map_twice plain_clause (rebased_clause g) c.args.clauses.now)
+    ∙ sym (map_twice (rebased_clause g) plain_clause c.args.clauses.now)
