@@ -23,7 +23,7 @@ term_test a b = ((a.delta.object == b.delta.object) && (a.delta.site == b.delta.
 abbrev pub same_key : Key → Key → Bool
 same_key a b = pointwise term_test a.terms.now b.terms.now && int_eq a.slack b.slack
 
-same-terms : (xs ys : List Term) → pointwise term_test xs ys ≡ same_terms xs ys
+pub same-terms : (xs ys : List Term) → pointwise term_test xs ys ≡ same_terms xs ys
 unfolding definitions
 same-terms [] [] = refl
 same-terms [] (y ∷ ys) = refl

@@ -4,4 +4,5 @@ pub mod AtSites
 pub mod Freezing
 pub mod Keys
 pub mod Negation
+pub mod Rebased
 pub mod Slacks

@@ -1,6 +1,6 @@
 //! What commands bring at one base, seen from another: the same terms, where the same branches are taken, and other constants.
 
-ghost use Rattle.std.specs.Prelude.{◌≡◌, ◌<◌, IsTrue, length, map, IfOk, IfSome};
+ghost use Rattle.std.specs.Prelude.{◌≡◌, ◌<◌, IsTrue, length, map, ◌*ℤ◌, IfOk, IfSome};
 ghost use Rattle.homeo_meaning.specs.Serial.{values_of};
 ghost use Rattle.homeo_plan.specs.PlanView.{plain_linear, plain_atom, plain_clause};
 ghost use Rattle.homeo_follow.specs.Brought.{plain_part};
@@ -22,14 +22,20 @@ fn gain(object: u32, from: &[i64], to: &[i64]) -> i128
     i128::from(item_or(to, place, 0)) - i128::from(item_or(from, place, 0))
 }
 
+/// A term's factor times what its object gained; none where it is out of the range of i128.
+fn gained_by(term: &Term, from: &[i64], to: &[i64]) -> Option<i128>
+    ensures { IfSome result (λ n. n ≡ term.now.factor *ℤ gains (values_of from.now) (values_of to.now) term.now.delta.object) }
+{
+    term.factor.checked_mul(gain(term.delta.object, from, to))
+}
+
 /// The sum of factor times what its object gained; none where it is out of the range of i128 on the way.
 fn gained(terms: &[Term], from: &[i64], to: &[i64]) -> Option<i128>
     ensures { IfSome result (λ sum. sum ≡ gained (gains (values_of from.now) (values_of to.now)) terms.now) }
 {
     let mut sum: i128 = 0;
     for term in terms {
-        let gain = gain(term.delta.object, from, to);
-        sum = sum.checked_add(term.factor.checked_mul(gain)?)?;
+        sum = sum.checked_add(gained_by(term, from, to)?)?;
     }
     Some(sum)
 }
@@ -108,6 +114,21 @@ fn slack_after(clause: &Clause, from: &[i64], to: &[i64]) -> Option<i128>
     clause.slack.checked_sub(gained)
 }
 
+/// A clause at another base; none where its slack is out of the range of i128 on the way.
+fn clause_after(alloc: Global, clause: &Clause, from: &[i64], to: &[i64]) -> Result<Option<Clause>, Memory>
+    ensures { IfOk result (λ made. IfSome made (λ c. plain_clause c ≡
+        rebased_clause (gains (values_of from.now) (values_of to.now)) (plain_clause clause.now))) }
+{
+    let Some(slack) = slack_after(clause, from, to) else {
+        return Ok(None);
+    };
+    let terms = Vec::from_slice(alloc, clause.terms.as_slice())?;
+    Ok(Some(Clause {
+        terms: List::from_vec(terms),
+        slack,
+    }))
+}
+
 /// Clauses over whole objects at another base, where what they are of is rebased: each has its terms, and its slack less what
 /// these gained. `None` where a number is out of the range of i128 on the way.
 ///
@@ -125,14 +146,10 @@ pub fn rebased_clauses(
 {
     let mut made = Vec::with_capacity(alloc, clauses.len())?;
     for clause in clauses {
-        let Some(slack) = slack_after(clause, from, to) else {
+        let Some(moved) = clause_after(alloc, clause, from, to)? else {
             return Ok(None);
         };
-        let terms = Vec::from_slice(alloc, clause.terms.as_slice())?;
-        made.push(Clause {
-            terms: List::from_vec(terms),
-            slack,
-        })?;
+        made.push(moved)?;
     }
     Ok(Some(List::from_vec(made)))
 }

@@ -1,0 +1,9 @@
+-- What the terms so far gained, with what the others gained, is what all gained.
+use Rattle.std.proofs.Common.{◌≡◌, drop, ◌+ℤ◌}
+use Rattle.homeo_meaning.specs.Serial.{values_of}
+use Rattle.homeo_follow.specs.Rebased.{gained, gains}
+use Rattle.homeo_template.proofs.rebasing.gained.Given as goal
+
+abbrev pub invariant-loop-term : goal.invariant-loop-term
+invariant-loop-term l =
+    l.sum +ℤ gained (gains (values_of l.from) (values_of l.to)) (drop l.term-index l.terms) ≡ gained (gains (values_of l.from) (values_of l.to)) l.terms

@@ -1,0 +1,10 @@
+-- The clauses so far are made.
+use Rattle.std.proofs.Common.{◌≡◌, map, take}
+use Rattle.homeo_meaning.specs.Serial.{values_of}
+use Rattle.homeo_plan.specs.PlanView.{plain_clause}
+use Rattle.homeo_follow.specs.Rebased.{rebased_clause, gains}
+use Rattle.homeo_template.proofs.rebasing.rebased_clauses.Given as goal
+
+abbrev pub invariant-loop-clause : goal.invariant-loop-clause
+invariant-loop-clause l =
+    map plain_clause l.made.items ≡ map (λ c. rebased_clause (gains (values_of l.from) (values_of l.to)) (plain_clause c)) (take l.clause-index l.clauses)
