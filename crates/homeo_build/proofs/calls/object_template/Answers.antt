@@ -53,6 +53,11 @@ bounds-parts-places c =
     form_here w fs places c.calls-call-items.result.now c.loop-i.i c.call-item.result forms c.calls-call-items.ensures c.loop-i-test.true c.call-item.is in
     place_within shared_part (brought (values_of base)) fs parts places c.as_slice-places.result.now c.loop-i.i are c.as_slice-places.ensures.value here.below
 
+pub offset_bounds-parts-places : goal.offset_bounds-parts-places
+offset_bounds-parts-places c =
+    let h = bounds-parts-places c in
+    search rules
+
 pub loop-i-init : goal.loop-i-init
 loop-i-init c = none_frozen (plain_workload c.args.c.now) (values_of c.args.base.now.items) c.new-frozen.result c.new-frozen.ensures
 
