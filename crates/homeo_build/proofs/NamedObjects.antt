@@ -82,17 +82,23 @@ named_If b c d = refl
 pub ruleset command_steps = (append_assoc, append-nil, named_Skip, named_Assign, named_Write, named_Print, named_Seq, named_If)
 
 -- ---- the names of a list are those of its parts
-pub exprs_flat : {X : Type 0} (view : X → Expr) (xs : List X) → named_in_exprs (low_exprs (map view xs)) ≡ flat_map (λ x. named_in_expr (view x)) xs
+pub exprs_flat :
+    {X : Type 0} (view : X → Expr) (xs : List X) →
+    named_in_exprs (low_exprs (map view xs)) ≡ flat_map (λ x. named_in_expr (view x)) xs
 unfolding definitions syntax_definitions
 exprs_flat view [] = refl
 exprs_flat view (x ∷ xs) = ap (λ l. named_in_expr (view x) ++ l) (exprs_flat view xs)
 
-pub tests_flat : {X : Type 0} (view : X → Test) (xs : List X) → named_in_cond (low_tests (map view xs)) ≡ flat_map (λ x. named_in_test (view x)) xs
+pub tests_flat :
+    {X : Type 0} (view : X → Test) (xs : List X) →
+    named_in_cond (low_tests (map view xs)) ≡ flat_map (λ x. named_in_test (view x)) xs
 unfolding definitions syntax_definitions
 tests_flat view [] = refl
 tests_flat view (x ∷ xs) = ap (λ l. named_in_test (view x) ++ l) (tests_flat view xs)
 
-pub commands_flat : {X : Type 0} (view : X → Command) (xs : List X) → named_in_all (low_commands (map view xs)) ≡ flat_map (λ x. named (view x)) xs
+pub commands_flat :
+    {X : Type 0} (view : X → Command) (xs : List X) →
+    named_in_all (low_commands (map view xs)) ≡ flat_map (λ x. named (view x)) xs
 unfolding definitions syntax_definitions
 commands_flat view [] = refl
 commands_flat view (x ∷ xs) = ap (λ l. named (view x) ++ l) (commands_flat view xs)
