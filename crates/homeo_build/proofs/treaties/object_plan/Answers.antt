@@ -28,12 +28,12 @@ returns c =
     let base = c.args.base.now.items in
     let t = c.args.template in
     record {
-      plan = subst (IsObjectPlan w base) (sym c.in_ok-new.ensures) (record {
+      plan = subst (IsObjectPlan w base) (sym c.in_ok-new.ensures.ok) (record {
         within = c.requires.within;
         base = ap (λ l. l.items) c.from_vec.ensures ∙ c.in_ok-values.ensures.items ∙ c.as_slice.ensures;
         parts = c.requires.parts;
         sites = c.requires.sites;
         template = c.requires.template;
       });
-      policy = ap config_in c.in_ok-new.ensures ∙ c.in_ok-bounds.ensures ∙ policy_is w base (expanded_template t.sites (plain_template t)) c.requires.template;
+      policy = ap config_in c.in_ok-new.ensures.ok ∙ c.in_ok-bounds.ensures ∙ policy_is w base (expanded_template t.sites (plain_template t)) c.requires.template;
     }
