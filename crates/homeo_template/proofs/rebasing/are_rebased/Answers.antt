@@ -1,5 +1,5 @@
 -- All parts are others, rebased.
-use Rattle.std.proofs.Common.{map, sym, ◌∙◌, arith, length}
+use Rattle.std.proofs.Common.{sym, ◌∙◌, arith}
 use Rattle.homeo_meaning.specs.Serial.{values_of}
 use Rattle.homeo_follow.specs.Brought.{plain_part}
 use Rattle.homeo_follow.specs.Rebased.{rebased, gains}

@@ -1,5 +1,5 @@
 -- The parts so far are others, rebased.
-use Rattle.std.proofs.Common.{◌≡◌, length, map, take}
+use Rattle.std.proofs.Common.{◌≡◌, map, take}
 use Rattle.homeo_meaning.specs.Serial.{values_of}
 use Rattle.homeo_follow.specs.Brought.{plain_part}
 use Rattle.homeo_follow.specs.Rebased.{rebased, gains}

@@ -1,5 +1,5 @@
 -- The atoms so far are others, rebased.
-use Rattle.std.proofs.Common.{◌≡◌, length, map, take}
+use Rattle.std.proofs.Common.{◌≡◌, map, take}
 use Rattle.homeo_meaning.specs.Serial.{values_of}
 use Rattle.homeo_plan.specs.PlanView.{plain_atom}
 use Rattle.homeo_follow.specs.Rebased.{rebased_form, gains}

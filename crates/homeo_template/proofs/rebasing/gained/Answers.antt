@@ -1,5 +1,5 @@
 -- A term more is added up.
-use Rattle.std.proofs.Common.{◌≡◌, ◌+ℤ◌, ap, ◌∙◌, SFits, to_z, rules}
+use Rattle.std.proofs.Common.{◌+ℤ◌, ap, ◌∙◌, SFits, to_z, rules}
 use mir.Syntax.{w128}
 use Rattle.std.proofs.lemmas.Int.{to_z-of_z}
 use Rattle.homeo_meaning.specs.Serial.{values_of}
