@@ -1,6 +1,6 @@
 //! What commands bring at one base, seen from another: the same terms, where the same branches are taken, and other constants.
 
-ghost use Rattle.std.specs.Prelude.{◌≡◌, ◌<◌, IsTrue, length, map, ◌*ℤ◌, IfOk, IfSome};
+ghost use Rattle.std.specs.Prelude.{◌≡◌, IsTrue, map, ◌*ℤ◌, IfOk, IfSome};
 ghost use Rattle.homeo_meaning.specs.Serial.{values_of};
 ghost use Rattle.homeo_plan.specs.PlanView.{plain_linear, plain_atom, plain_clause};
 ghost use Rattle.homeo_follow.specs.Brought.{plain_part};
