@@ -42,7 +42,8 @@ found_sum None a b n constant more new is same p q s = absurd cc
 found_sum (Some x) a b n constant more new is same p q s = sym s ∙ sym (int_eq_is x n same) ∙ is.1 ∙ ap₂ ◌+ℤ◌ p q
 
 pub found_product :
-    (r : Option ℤ) (a b factor gain : ℤ) → SomeIff r (FitsSigned w128 (a *ℤ b)) (a *ℤ b) → a ≡ factor → b ≡ gain → IfSome r (λ n. n ≡ factor *ℤ gain)
+    (r : Option ℤ) (a b factor gain : ℤ) → SomeIff r (FitsSigned w128 (a *ℤ b)) (a *ℤ b) → a ≡ factor → b ≡ gain →
+    IfSome r (λ n. n ≡ factor *ℤ gain)
 found_product None a b factor gain is p q = tt
 found_product (Some x) a b factor gain is p q = is.1 ∙ ap₂ ◌*ℤ◌ p q
 

@@ -1,6 +1,6 @@
 //! What commands bring at one base, seen from another: the same terms, where the same branches are taken, and other constants.
 
-ghost use Rattle.std.specs.Prelude.{◌≡◌, ◌<◌, IsTrue, length, map, ◌*ℤ◌, IfOk, IfSome};
+ghost use Rattle.std.specs.Prelude.{◌≡◌, IsTrue, map, ◌*ℤ◌, IfOk, IfSome};
 ghost use Rattle.homeo_meaning.specs.Serial.{values_of};
 ghost use Rattle.homeo_plan.specs.PlanView.{plain_linear, plain_atom, plain_clause};
 ghost use Rattle.homeo_follow.specs.Brought.{plain_part};
@@ -42,7 +42,8 @@ fn gained(terms: &[Term], from: &[i64], to: &[i64]) -> Option<i128>
 
 /// Whether a form's constant is another's with what its terms gained.
 fn has_gained(old: &Linear, new: &Linear, from: &[i64], to: &[i64]) -> bool
-    ensures { IsTrue result → new.now.constant ≡ (rebased_form (gains (values_of from.now) (values_of to.now)) (plain_linear old.now)).constant }
+    ensures { IsTrue result → new.now.constant ≡
+        (rebased_form (gains (values_of from.now) (values_of to.now)) (plain_linear old.now)).constant }
 {
     match gained(old.terms.as_slice(), from, to) {
         Some(gained) => old.constant.checked_add(gained) == Some(new.constant),
@@ -86,7 +87,12 @@ fn is_rebased_part(old: &PlanPart, new: &PlanPart, from: &[i64], to: &[i64]) -> 
     ensures { IsTrue result → plain_part new.now ≡ rebased (gains (values_of from.now) (values_of to.now)) (plain_part old.now) }
 {
     new.needs.deltas.as_slice() == old.needs.deltas.as_slice()
-        && are_rebased_atoms(old.atoms.atoms.as_slice(), new.atoms.atoms.as_slice(), from, to)
+        && are_rebased_atoms(
+            old.atoms.atoms.as_slice(),
+            new.atoms.atoms.as_slice(),
+            from,
+            to,
+        )
 }
 
 /// Whether what commands bring at one base is what they bring at another, rebased: they ask the same terms there and need the same,
@@ -115,7 +121,12 @@ fn slack_after(clause: &Clause, from: &[i64], to: &[i64]) -> Option<i128>
 }
 
 /// A clause at another base; none where its slack is out of the range of i128 on the way.
-fn clause_after(alloc: Global, clause: &Clause, from: &[i64], to: &[i64]) -> Result<Option<Clause>, Memory>
+fn clause_after(
+    alloc: Global,
+    clause: &Clause,
+    from: &[i64],
+    to: &[i64],
+) -> Result<Option<Clause>, Memory>
     ensures { IfOk result (λ made. IfSome made (λ c. plain_clause c ≡
         rebased_clause (gains (values_of from.now) (values_of to.now)) (plain_clause clause.now))) }
 {

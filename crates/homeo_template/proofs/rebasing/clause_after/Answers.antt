@@ -1,5 +1,5 @@
 -- The same terms, and the slack after.
-use Rattle.std.proofs.Common.{◌≡◌, ap, ◌∙◌, SFits, to_z, of_z, rules}
+use Rattle.std.proofs.Common.{ap, ◌∙◌, SFits, rules}
 use mir.Syntax.{w128}
 use Rattle.std.proofs.lemmas.Int.{to_z-of_z}
 use Rattle.homeo_follow.specs.Key.{definitions}

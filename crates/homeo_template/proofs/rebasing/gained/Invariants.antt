@@ -6,4 +6,5 @@ use Rattle.homeo_template.proofs.rebasing.gained.Given as goal
 
 abbrev pub invariant-loop-term : goal.invariant-loop-term
 invariant-loop-term l =
-    l.sum +ℤ gained (gains (values_of l.from) (values_of l.to)) (drop l.term-index l.terms) ≡ gained (gains (values_of l.from) (values_of l.to)) l.terms
+    let g = gains (values_of l.from) (values_of l.to) in
+    l.sum +ℤ gained g (drop l.term-index l.terms) ≡ gained g l.terms

@@ -19,4 +19,6 @@ returns-in-Some c =
     let new_fits : SFits w128 new = search rules in
     let more_fits : SFits w128 more = search rules in
     λ yes. found_sum c.checked_add.result _ _ _ old _ new c.checked_add.ensures (sym c.eq.ensures ∙ yes)
-    (to_z-of_z w128 old old_fits) (to_z-of_z w128 more more_fits ∙ c.in-Some.ensures ∙ ap (gained g) c.as_slice.ensures) (to_z-of_z w128 new new_fits)
+    (to_z-of_z w128 old old_fits)
+    (to_z-of_z w128 more more_fits ∙ c.in-Some.ensures ∙ ap (gained g) c.as_slice.ensures)
+    (to_z-of_z w128 new new_fits)

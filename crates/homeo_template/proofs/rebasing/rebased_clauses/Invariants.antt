@@ -7,4 +7,5 @@ use Rattle.homeo_template.proofs.rebasing.rebased_clauses.Given as goal
 
 abbrev pub invariant-loop-clause : goal.invariant-loop-clause
 invariant-loop-clause l =
-    map plain_clause l.made.items ≡ map (λ c. rebased_clause (gains (values_of l.from) (values_of l.to)) (plain_clause c)) (take l.clause-index l.clauses)
+    let g = gains (values_of l.from) (values_of l.to) in
+    map plain_clause l.made.items ≡ map (λ c. rebased_clause g (plain_clause c)) (take l.clause-index l.clauses)
