@@ -1,5 +1,5 @@
 -- What the L forms of ground calls bring to a plan.
-use Rattle.std.proofs.Common.{◌≡◌, ℕ, zero, suc, ◌<◌, List, [], ◌∷◌, map, Some, take, length, get_or, ◌≤◌, true, Vec, ℤ, pos, sym, ap, ◌∙◌, subst, arith}
+use Rattle.std.proofs.Common.{◌≡◌, ℕ, zero, suc, ◌<◌, List, [], ◌∷◌, map, Some, take, length, get_or, ◌≤◌, Bool, true, Vec, ℤ, pos, sym, ap, ◌∙◌, subst, arith}
 use Rattle.std.specs.Prelude.{slice_get, slice_index_or}
 use Rattle.std.specs.List.{list_all}
 use Rattle.std.specs.Ordering.{int_eq}
@@ -144,7 +144,7 @@ pub names_lent :
     {N : Type 0} (forms fs : List LCommand) (names lent : List (Vec ℕ N)) → fs ≡ forms → lent ≡ names →
     map (λ (ns : Vec ℕ N). ns.items) names ≡ map named (map plain_lcommand forms) →
     map (λ (ns : Vec ℕ N). ns.items) lent ≡ map named (map plain_lcommand fs)
-names_lent forms fs names lent same lent_is are =
+names_lent {N = N} forms fs names lent same lent_is are =
     ap (map (λ (ns : Vec ℕ N). ns.items)) lent_is ∙ are ∙ ap (λ (l : List LCommand). map named (map plain_lcommand l)) (sym same)
 
 pub parts_all :
@@ -183,12 +183,17 @@ module _
     names_of f ns f_is ns_is = same_place (λ (v : Vec ℕ N). v.items) lent_names names fs i ns f names_here within ns_is f_is
 
 -- bases that have one value for each of these objects
+abbrev pub same_value : List ℤ → List ℤ → ℕ → Bool
+same_value last base x = int_eq (slice_index_or last x (pos 0)) (slice_index_or base x (pos 0))
+
 pub values_same :
-    (last base : List ℤ) (xs : List ℕ) → list_all (λ x. int_eq (slice_index_or last x (pos 0)) (slice_index_or base x (pos 0))) xs ≡ true →
-    Each (λ x. values_of last x ≡ values_of base x) xs
+    (last base : List ℤ) (xs : List ℕ) → list_all (same_value last base) xs ≡ true → Each (λ x. values_of last x ≡ values_of base x) xs
 unfolding plan_definitions
 values_same last base [] h = tt
-values_same last base (x ∷ xs) h = let both = and_parts _ _ h in (grind (arith, ints, both.0), values_same last base xs both.1)
+values_same last base (x ∷ xs) h =
+    let both = and_parts (same_value last base x) (list_all (same_value last base) xs) h in
+    let here : values_of last x ≡ values_of base x = grind (arith, ints, both.0) in
+    (here, values_same last base xs both.1)
 
 -- ---- a ground call
 module _ (w : s.Workload) (g : Ground) (b : ℕ → ℤ) (site : g.site < sites_of w) where

@@ -40,8 +40,8 @@ bounds-places-i c =
     c.calls-call-items.result.now c.loop-i.i c.call-item.result c.forms.ensures.forms c.calls-call-items.ensures c.loop-i-test.true c.call-item.is in
     subst (λ (ps : List ℕ). c.loop-i.i < length ps) (sym c.as_slice-places.ensures.value) here.within
 
-pub bounds-parts-places-i : goal.bounds-parts-places-i
-bounds-parts-places-i c =
+pub bounds-parts-places : goal.bounds-parts-places
+bounds-parts-places c =
     let w = plain_workload c.args.c.now in
     let base = c.args.base.now.items in
     let forms = c.forms.ensures.forms in
@@ -52,6 +52,11 @@ bounds-parts-places-i c =
     let here =
     form_here w fs places c.calls-call-items.result.now c.loop-i.i c.call-item.result forms c.calls-call-items.ensures c.loop-i-test.true c.call-item.is in
     place_within shared_part (brought (values_of base)) fs parts places c.as_slice-places.result.now c.loop-i.i are c.as_slice-places.ensures.value here.below
+
+pub offset_bounds-parts-places : goal.offset_bounds-parts-places
+offset_bounds-parts-places c =
+    let h = bounds-parts-places c in
+    search rules
 
 pub loop-i-init : goal.loop-i-init
 loop-i-init c = none_frozen (plain_workload c.args.c.now) (values_of c.args.base.now.items) c.new-frozen.result c.new-frozen.ensures
@@ -77,11 +82,11 @@ loop-i-preserved c =
     let is = c.call-item.is in
     let part =
     made_there shared_part (brought b) fs parts places c.as_slice-places.result.now i are c.as_slice-places.ensures.value here.below
-    c.index-parts-places-i.result (ground_form w g) c.index-parts-places-i.is here.at in
+    c.index-parts-places.result (ground_form w g) c.index-parts-places.is here.at in
     let site = (can_here w calls.result.now i call c.requires.accepted calls.ensures within is).site in
     frozen_next w b calls.result.now i call within is site c.loop-i.frozen c.mix.new.self c.need.new.self _ _
-    (ap (map plain_atom) c.as_slice-in-loop-i.ensures ∙ ap (λ (p : PlanPart). map plain_atom p.atoms.atoms.items) c.deref.ensures ∙ ap (λ (r : Brought). r.atoms) part)
-    (c.as_slice-in-loop-i-2.ensures ∙ ap (λ (p : PlanPart). p.needs.deltas.items) c.deref-2.ensures ∙ ap (λ (r : Brought). r.needs) part)
+    (ap (map plain_atom) c.as_slice.ensures ∙ ap (λ (p : PlanPart). map plain_atom p.atoms.atoms.items) c.deref.ensures ∙ ap (λ (r : Brought). r.atoms) part)
+    (c.as_slice-in-loop-i.ensures ∙ ap (λ (p : PlanPart). p.needs.deltas.items) c.deref-in-loop-i.ensures ∙ ap (λ (r : Brought). r.needs) part)
     c.loop-i.invariant c.in_ok-mix.ensures c.in_ok-need.ensures
 
 pub returns-clause-template : goal.returns-clause-template

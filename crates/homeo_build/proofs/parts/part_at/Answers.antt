@@ -7,4 +7,4 @@ pub follow_at-requires : goal.follow_at-requires
 follow_at-requires c = record { can = c.requires.form.can; left = c.requires.form.left; base = c.requires.base }
 
 pub returns : goal.returns
-returns c = ap plain_part c.in_ok-new.ensures ∙ c.in_ok-part.ensures
+returns c = ap plain_part c.in_ok-new.ensures.ok ∙ c.in_ok-part.ensures

@@ -39,7 +39,7 @@ part_after-requires c =
     let names = names_lent c.forms-forms.result.now.forms.items fs c.forms-forms.result.now.names.items c.as_slice-names.result.now c.as_slice-form-items.ensures c.as_slice-names.ensures.value c.forms-forms.ensures.names in
     record {
       names =
-          c.as_slice-in-loop-i.ensures.value
+          c.as_slice.ensures.value
           ∙ names_of (values_of c.args.last.now.base.items) fs c.as_slice-kept.result.now c.as_slice-names.result.now c.loop-i.i parts names c.loop-i-test.true c.form-item.result c.index-names-i.result c.form-item.is c.index-names-i.is;
       kept = part_of (values_of c.args.last.now.base.items) fs c.as_slice-kept.result.now c.as_slice-names.result.now c.loop-i.i parts names c.loop-i-test.true c.form-item.result c.index-kept-i.result c.form-item.is c.index-kept-i.is;
       form = small_at w c.args.base.now.items c.requires.accepted c.requires.within fs c.loop-i.i c.form-item.result forms.made c.loop-i-test.true c.form-item.is;

@@ -34,12 +34,12 @@ returns c =
     let t = c.in_ok-template.template in
     let there = ap (λ k. expanded_template k (plain_template t)) c.in_ok-template.ensures.sites ∙ c.in_ok-template.ensures.template in
     record {
-      plan = subst (IsObjectPlan w base) (sym c.in_ok-new.ensures) (record {
+      plan = subst (IsObjectPlan w base) (sym c.in_ok-new.ensures.ok) (record {
         within = c.requires.within;
         base = ap (λ l. l.items) c.from_vec.ensures ∙ c.in_ok-values.ensures.items ∙ c.as_slice-2.ensures;
         parts = c.requires.parts;
         sites = c.in_ok-template.ensures.sites ∙ c.requires.sites;
         template = there;
       });
-      policy = ap config_in c.in_ok-new.ensures ∙ c.in_ok-bounds.ensures ∙ policy_is w base (expanded_template t.sites (plain_template t)) there;
+      policy = ap config_in c.in_ok-new.ensures.ok ∙ c.in_ok-bounds.ensures ∙ policy_is w base (expanded_template t.sites (plain_template t)) there;
     }
