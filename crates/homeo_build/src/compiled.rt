@@ -10,7 +10,6 @@ ghost use Rattle.homeo_ground.specs.Grounding.{grounding};
 ghost use Rattle.homeo_plan.specs.PlanView.{plain_clause};
 ghost use Rattle.homeo_plan.specs.Planned.{sites_of, planned, transformed};
 ghost use Rattle.homeo_plan.specs.Shares.{takes_part};
-ghost use Rattle.homeo_follow.specs.Named.{named};
 ghost use Rattle.homeo_build.specs.Forms.{AreForms};
 ghost use Rattle.homeo_build.specs.Written.{AreWritten};
 
@@ -113,8 +112,7 @@ impl Compiled {
 
     /// Lends the L forms of the ground calls.
     pub(crate) fn forms(&self) -> &Forms
-        ensures forms { AreForms (plain_workload self.now) (map plain_lcommand result.now.forms.items) result.now.places.items }
-        ensures names { map (λ ns. ns.items) result.now.names.items ≡ map named (map plain_lcommand result.now.forms.items) }
+        ensures { AreForms (plain_workload self.now) (map plain_lcommand result.now.forms.items) result.now.places.items }
     {
         &self.forms
     }

@@ -24,8 +24,6 @@ use std::alloc::Global;
 pub struct Forms {
     pub(crate) forms: List<LCommand>,
     pub(crate) places: Vec<usize>,
-    /// Of each form, the objects that it names.
-    pub(crate) names: Vec<Vec<u32>>,
 }
 
 impl Forms {
@@ -124,5 +122,5 @@ pub(crate) fn forms_of(
         places.push(bodies.place(alloc, call, w, declared)?)?;
     }
     let Bodies { bodies: _, forms } = bodies;
-    Ok(Forms { forms, places, names: Vec::new(alloc) })
+    Ok(Forms { forms, places })
 }
