@@ -1,7 +1,8 @@
 -- The L forms of ground calls, made once for each transaction with arguments.
 use Rattle.std.proofs.Common.{◌≡◌, ℕ, zero, suc, ◌+◌, ◌<◌, ◌≤◌, ℤ, Bool, true, false, ◌&&◌, ◌==◌, List, [], ◌∷◌, ◌++◌, map, take, Some, length, get_or, refl, sym, ap, ap₂, subst, ◌∙◌, arith}
-use Rattle.std.specs.Prelude.{slice_get, slice_index_or, not, if◌then◌else◌}
+use Rattle.std.specs.Prelude.{slice_get, slice_index_or, not, ◌||◌, if◌then◌else◌}
 use Rattle.std.specs.Ordering.{int_eq}
+use Rattle.std.specs.List.{list_any}
 use Rattle.std.specs.Cmp.Lexicographic.{pointwise}
 use Rattle.std.proofs.lemmas.Int.{ints}
 use Rattle.std.proofs.lemmas.Bool.Decides.{nat_tests}
@@ -18,8 +19,9 @@ use Rattle.homeo_meaning.specs.declared.call.GroundCall.{GroundCall}
 use Rattle.homeo_plan.specs.Key.{definitions as plan_definitions}
 use Rattle.homeo_plan.specs.Each.{Each}
 use Rattle.homeo_build.specs.Key.{definitions}
-use Rattle.homeo_build.specs.Forms.{IsCallForm, HaveForms, AreForms}
-use Rattle.homeo_build.specs.inner.Bodies.{ground_to, IsFormTo, HaveBodies, StayPlaced}
+use Rattle.homeo_build.specs.Forms.{CallBody, body_of, body_ground, with_body, bodies_after, call_forms, IsCallForm, HaveForms, AreForms}
+use Rattle.homeo_build.specs.Forms.{same_body as same_call_body}
+use Rattle.homeo_build.specs.inner.Bodies.{call_body, ground_to, IsFormTo, HaveBodies, StayPlaced}
 use Rattle.homeo_build.specs.declared.forms.Body.{Body}
 
 -- ---- what stands at a place
@@ -146,6 +148,64 @@ module _ (w : s.Workload) (g : Ground) (b : Body) (transaction : b.transaction �
       let values : b.args.items ≡ k.args.items = numbers_same b.args.items k.args.items (and_second (b.transaction == k.transaction) (pointwise int_eq b.args.items k.args.items) same) in
       form_at w found fs j k h at ∙ ap Some (sym (body_alike w b k names values) ∙ alike)
 
+-- ---- which bodies these are
+calls_more :
+    (calls : List GroundCall) (i : ℕ) (call : GroundCall) → i < length calls → call ≡ get_or calls i call →
+    map plain_ground (take (i + 1) calls) ≡ map plain_ground (take i calls) ++ plain_ground call ∷ []
+calls_more calls i call within is =
+    ap (map plain_ground) (take_more calls i call within ∙ ap (λ c. take i calls ++ c ∷ []) (sym is)) ∙ map_push plain_ground (take i calls) call
+
+-- each form is that of its body
+forms_are : (w : s.Workload) (bs : List Body) (fs : List Command) → HaveBodies w bs fs → fs ≡ map (λ b. ground_form w (body_ground b)) (map call_body bs)
+forms_are w [] [] h = refl
+forms_are w [] (f ∷ fs) h = absurd h
+forms_are w (b ∷ bs) [] h = absurd h
+forms_are w (b ∷ bs) (f ∷ fs) h = ap₂ (λ x l. x ∷ l) h.0.is (forms_are w bs fs h.1)
+
+any_body : (b : Body) (bs : List Body) → list_any (same_body b) bs ≡ list_any (same_call_body (call_body b)) (map call_body bs)
+any_body b [] = refl
+any_body b (k ∷ bs) = ap (λ t. same_body b k || t) (any_body b bs)
+
+-- a body that is put stands behind the others, unless it is there
+pub keys_put :
+    (g : Ground) (b : Body) (bs found : List Body) → b.transaction ≡ g.transaction → b.args.items ≡ g.args →
+    found ≡ (if list_any (same_body b) bs then bs else bs ++ b ∷ []) → map call_body found ≡ with_body (map call_body bs) (body_of g)
+keys_put g b bs found transaction args put =
+    let here : call_body b ≡ body_of g = λ i. record { transaction = transaction i; args = args i } in
+    ap (map call_body) put ∙ either (list_any (same_body b) bs)
+    ∙ ap (λ t. if t then map call_body bs else map call_body bs ++ call_body b ∷ []) (any_body b bs) ∙ ap (with_body (map call_body bs)) here
+  where
+    either : (t : Bool) → map call_body (if t then bs else bs ++ b ∷ []) ≡ (if t then map call_body bs else map call_body bs ++ call_body b ∷ [])
+    either true = refl
+    either false = map_push call_body bs b
+
+bodies_push : (bs : List CallBody) (gs : List Ground) (g : Ground) → bodies_after bs (gs ++ g ∷ []) ≡ with_body (bodies_after bs gs) (body_of g)
+unfolding definitions
+bodies_push bs [] g = refl
+bodies_push bs (x ∷ gs) g = bodies_push (with_body bs (body_of x)) gs g
+
+pub keys_none : (keys : List Body) → keys ≡ [] → map call_body keys ≡ bodies_after [] []
+unfolding definitions
+keys_none keys p = ap (map call_body) p
+
+-- one call more
+pub keys_next :
+    (calls : List GroundCall) (i : ℕ) (call : GroundCall) (old new : List Body) → i < length calls → call ≡ get_or calls i call →
+    map call_body new ≡ with_body (map call_body old) (body_of (plain_ground call)) →
+    map call_body old ≡ bodies_after [] (map plain_ground (take i calls)) → map call_body new ≡ bodies_after [] (map plain_ground (take (i + 1) calls))
+keys_next calls i call old new within is put h =
+    put ∙ ap (λ bs. with_body bs (body_of (plain_ground call))) h ∙ sym (bodies_push [] (map plain_ground (take i calls)) (plain_ground call))
+    ∙ ap (bodies_after []) (sym (calls_more calls i call within is))
+
+-- all calls
+pub forms_all :
+    (w : s.Workload) (bs : List Body) (fs : List Command) (calls : List GroundCall) (i : ℕ) → length calls ≤ i → map plain_ground calls ≡ grounds w →
+    HaveBodies w bs fs → map call_body bs ≡ bodies_after [] (map plain_ground (take i calls)) → fs ≡ call_forms w
+unfolding definitions
+forms_all w bs fs calls i past are h keys =
+    forms_are w bs fs h
+    ∙ ap (map (λ b. ground_form w (body_ground b))) (keys ∙ ap (bodies_after []) (ap (map plain_ground) (take_all i calls past) ∙ are))
+
 -- ---- ground calls with the places of their forms
 have_more : (w : s.Workload) (fs more : List Command) (gs : List Ground) (ns : List ℕ) → StayPlaced fs more → HaveForms w fs gs ns → HaveForms w more gs ns
 unfolding definitions
@@ -171,10 +231,7 @@ pub have_next :
     call ≡ get_or calls i call → all ≡ ns ++ n ∷ [] → StayPlaced fs more → HaveForms w fs (map plain_ground (take i calls)) ns →
     slice_get more n ≡ Some (ground_form w (plain_ground call)) → HaveForms w more (map plain_ground (take (i + 1) calls)) all
 have_next w fs more calls i call ns all n within is pushed stay h e =
-    let one : take (i + 1) calls ≡ take i calls ++ call ∷ [] = take_more calls i call within ∙ ap (λ c. take i calls ++ c ∷ []) (sym is) in
-    let gs : map plain_ground (take (i + 1) calls) ≡ map plain_ground (take i calls) ++ plain_ground call ∷ [] =
-    ap (map plain_ground) one ∙ map_push plain_ground (take i calls) call in
-    subst (λ l. HaveForms w more l all) (sym gs)
+    subst (λ l. HaveForms w more l all) (sym (calls_more calls i call within is))
     (subst (HaveForms w more (map plain_ground (take i calls) ++ plain_ground call ∷ [])) (sym pushed)
     (have_end w more (map plain_ground (take i calls)) ns (plain_ground call) n (have_more w fs more (map plain_ground (take i calls)) ns stay h) e))
 

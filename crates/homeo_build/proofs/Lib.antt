@@ -9,6 +9,7 @@ mod FrozenSteps
 pub mod GroundCalls
 pub mod Grown
 pub mod NamedDeltas
+pub mod NamedObjects
 pub mod PlanParts
 pub mod Planning
 pub mod ShortResiduals

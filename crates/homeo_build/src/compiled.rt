@@ -10,6 +10,7 @@ ghost use Rattle.homeo_ground.specs.Grounding.{grounding};
 ghost use Rattle.homeo_plan.specs.PlanView.{plain_clause};
 ghost use Rattle.homeo_plan.specs.Planned.{sites_of, planned, transformed};
 ghost use Rattle.homeo_plan.specs.Shares.{takes_part};
+ghost use Rattle.homeo_follow.specs.Named.{named};
 ghost use Rattle.homeo_build.specs.Forms.{AreForms};
 ghost use Rattle.homeo_build.specs.Written.{AreWritten};
 
@@ -24,8 +25,8 @@ use std::marker::Model;
 
 /// An accepted workload with what is fixed for all its rounds: the places of its names; its distinct ground calls, each where it
 /// is first called, in the order of the text; which of them each call is; their L forms, once for each transaction with
-/// arguments; the delta transform of that of each, at the call's site; and at each site the objects whose deltas some of them can
-/// write.
+/// arguments, and the objects that these name; the delta transform of that of each, at the call's site; and at each site the
+/// objects whose deltas some of them can write.
 #[derive(Drop)]
 pub struct Compiled {
     workload: Accepted,
@@ -45,6 +46,7 @@ impl Model for Compiled {
     ghost use Rattle.homeo_meaning.specs.Declarations.{declarations};
     ghost use Rattle.homeo_ground.specs.Grounding.{grounding};
     ghost use Rattle.homeo_plan.specs.Planned.{transformed};
+    ghost use Rattle.homeo_follow.specs.Named.{named};
     ghost use Rattle.homeo_build.specs.Forms.{AreForms};
     ghost use Rattle.homeo_build.specs.Written.{AreWritten};
 
@@ -58,7 +60,8 @@ impl Model for Compiled {
         × (map plain_lcommand c.commands.items ≡ transformed (plain_workload c.workload))
         × (c.declared ≡ declarations (plain_workload c.workload))
         × AreWritten (plain_workload c.workload) (map (λ row. row.items) c.written.items)
-        × AreForms (plain_workload c.workload) (map plain_lcommand c.forms.forms.items) c.forms.places.items };
+        × AreForms (plain_workload c.workload) (map plain_lcommand c.forms.forms.items) c.forms.places.items
+        × (map (λ ns. ns.items) c.forms.names.items ≡ map named (map plain_lcommand c.forms.forms.items)) };
 }
 
 impl Compiled {
@@ -75,6 +78,7 @@ impl Compiled {
         requires declared { declared ≡ declarations (plain_workload workload) }
         requires calls { calls ≡ grounding (plain_workload workload) }
         requires forms { AreForms (plain_workload workload) (map plain_lcommand forms.forms.items) forms.places.items }
+        requires names { map (λ ns. ns.items) forms.names.items ≡ map named (map plain_lcommand forms.forms.items) }
         requires commands { map plain_lcommand commands.items ≡ transformed (plain_workload workload) }
         requires written { AreWritten (plain_workload workload) (map (λ row. row.items) written.items) }
         ensures { plain_workload result ≡ plain_workload workload }
@@ -112,7 +116,8 @@ impl Compiled {
 
     /// Lends the L forms of the ground calls.
     pub(crate) fn forms(&self) -> &Forms
-        ensures { AreForms (plain_workload self.now) (map plain_lcommand result.now.forms.items) result.now.places.items }
+        ensures forms { AreForms (plain_workload self.now) (map plain_lcommand result.now.forms.items) result.now.places.items }
+        ensures names { map (λ ns. ns.items) result.now.names.items ≡ map named (map plain_lcommand result.now.forms.items) }
     {
         &self.forms
     }

@@ -8,9 +8,11 @@ ghost use Rattle.homeo_meaning.specs.CallForm.{ground_form};
 ghost use Rattle.homeo_meaning.specs.Declarations.{declarations};
 ghost use Rattle.homeo_meaning.specs.Ground.{plain_ground, grounds};
 ghost use Rattle.homeo_ground.specs.Grounding.{IsCalled};
-ghost use Rattle.homeo_build.specs.Forms.{AreForms};
-ghost use Rattle.homeo_build.specs.inner.Bodies.{AreBodies, StayPlaced};
+ghost use Rattle.homeo_follow.specs.Named.{named};
+ghost use Rattle.homeo_build.specs.Forms.{AreForms, body_of, with_body};
+ghost use Rattle.homeo_build.specs.inner.Bodies.{call_body, AreBodies, StayPlaced};
 
+use crate::names::names_of;
 use homeo_context::Declarations;
 use homeo_desugar::desugar;
 use homeo_meaning::{Accepted, GroundCall};
@@ -18,12 +20,13 @@ use homeo_syntax::{LCommand, List, Memory};
 use indexmap::IndexSet;
 use std::alloc::Global;
 
-/// The L forms of ground calls, over whole objects, once for each transaction with arguments; and of each ground call the place
-/// of its own.
+/// The L forms of ground calls, over whole objects, once for each transaction with arguments; of each ground call the place of
+/// its own; and of each form the objects that it names.
 #[derive(Drop)]
 pub struct Forms {
     pub(crate) forms: List<LCommand>,
     pub(crate) places: Vec<usize>,
+    pub(crate) names: Vec<Vec<u32>>,
 }
 
 impl Forms {
@@ -69,6 +72,7 @@ impl Bodies {
     /// None yet.
     fn new(alloc: Global) -> Bodies
         ensures bodies { (w : s.Workload) → AreBodies w result }
+        ensures keys { result.bodies.keys ≡ [] }
         ensures forms { result.forms.items ≡ [] }
     {
         Bodies {
@@ -92,6 +96,8 @@ impl Bodies {
         ensures stay { OnOk result (StayPlaced (map plain_lcommand self.old.forms.items) (map plain_lcommand self.new.forms.items)) }
         ensures place { IfOk result (λ n. slice_get (map plain_lcommand self.new.forms.items) n ≡
             Some (ground_form (plain_workload w.now) (plain_ground call.now))) }
+        ensures keys { OnOk result (map call_body self.new.bodies.keys ≡
+            with_body (map call_body self.old.bodies.keys) (body_of (plain_ground call.now))) }
     {
         let body = body_of(alloc, call)?;
         let (place, is_new) = self.bodies.insert_full(body)?;
@@ -104,7 +110,8 @@ impl Bodies {
     }
 }
 
-/// The L forms of all ground calls of a workload, in about the time that their texts and arguments take.
+/// The L forms of all ground calls of a workload with the objects that they name, in about the time that their texts and
+/// arguments take.
 pub(crate) fn forms_of(
     alloc: Global,
     w: &Accepted,
@@ -114,7 +121,8 @@ pub(crate) fn forms_of(
     requires declared { declared.now ≡ declarations (plain_workload w.now) }
     requires called { All (IsCalled (plain_workload w.now)) (map plain_ground calls.now) }
     requires calls { map plain_ground calls.now ≡ grounds (plain_workload w.now) }
-    ensures { IfOk result (λ f. AreForms (plain_workload w.now) (map plain_lcommand f.forms.items) f.places.items) }
+    ensures forms { IfOk result (λ f. AreForms (plain_workload w.now) (map plain_lcommand f.forms.items) f.places.items) }
+    ensures names { IfOk result (λ f. map (λ ns. ns.items) f.names.items ≡ map named (map plain_lcommand f.forms.items)) }
 {
     let mut bodies = Bodies::new(alloc);
     let mut places = Vec::new(alloc);
@@ -122,5 +130,6 @@ pub(crate) fn forms_of(
         places.push(bodies.place(alloc, call, w, declared)?)?;
     }
     let Bodies { bodies: _, forms } = bodies;
-    Ok(Forms { forms, places })
+    let names = names_of(alloc, forms.as_slice())?;
+    Ok(Forms { forms, places, names })
 }

@@ -8,6 +8,7 @@ mod forms;
 mod freezes;
 mod frozen;
 pub mod laws;
+mod names;
 mod parts;
 pub mod residuals;
 pub mod shares;

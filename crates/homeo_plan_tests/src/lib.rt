@@ -10,9 +10,13 @@ mod effects;
 #[cfg(test)]
 mod evaluation;
 #[cfg(test)]
+mod example;
+#[cfg(test)]
 mod formulas;
 #[cfg(test)]
 mod joint_tables;
+#[cfg(test)]
+mod later_plans;
 #[cfg(test)]
 mod needs;
 #[cfg(test)]

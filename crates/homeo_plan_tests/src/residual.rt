@@ -79,6 +79,7 @@ pub(crate) fn plan(rt: &impl Abort, alloc: Global) -> Arc<ObjectPlan>
     let bounds = List::from_vec(vec![in alloc; taken, added].expect(rt, "memory"));
     let plan = ObjectPlan {
         base: base(rt, alloc, 5),
+        parts: List::new(alloc),
         template: Template {
             sites: 2,
             clauses,

@@ -6,8 +6,13 @@ use Rattle.homeo_syntax.specs.Source as s
 use Rattle.homeo_meaning.specs.Calls.{IsGroundCall}
 use Rattle.homeo_meaning.specs.CallForm.{ground_form}
 use Rattle.homeo_meaning.specs.Ground.{Ground}
+use Rattle.homeo_build.specs.Forms.{CallBody}
 use Rattle.homeo_build.specs.declared.forms.Bodies.{Bodies}
 use Rattle.homeo_build.specs.declared.forms.Body.{Body}
+
+-- what a transaction with its arguments stands for
+abbrev pub call_body : Body → CallBody
+call_body b = record { transaction = b.transaction; args = b.args.items }
 
 -- the ground call of a transaction with its arguments at the first site
 abbrev pub ground_to : Body → Ground

@@ -33,14 +33,14 @@ form-form-requires-clause-within c =
     let w = plain_workload c.args.c.now in
     let calls = c.calls-calls in
     let within = ground_below w calls.result.now c.args.number calls.ensures c.requires.number in
-    (form_here w _ _ calls.result.now c.args.number c.index-calls-number.result c.forms.ensures calls.ensures within c.index-calls-number.is).within
+    (form_here w _ _ calls.result.now c.args.number c.index-calls-number.result c.forms.ensures.forms calls.ensures within c.index-calls-number.is).within
 
 pub form-form-requires-clause-placed : goal.form-form-requires-clause-placed
 form-form-requires-clause-placed c =
     let w = plain_workload c.args.c.now in
     let calls = c.calls-calls in
     let within = ground_below w calls.result.now c.args.number calls.ensures c.requires.number in
-    let h = form_here w _ _ calls.result.now c.args.number c.index-calls-number.result c.forms.ensures calls.ensures within c.index-calls-number.is in
+    let h = form_here w _ _ calls.result.now c.args.number c.index-calls-number.result c.forms.ensures.forms calls.ensures within c.index-calls-number.is in
     omega (arith, h.below, length-map c.forms.result.now.forms.items plain_lcommand)
 
 pub taken-requires : goal.taken-requires
@@ -53,7 +53,7 @@ taken-requires c =
     let within = ground_below w calls.result.now n calls.ensures c.requires.number in
     let accepted = subst (λ (v : Workload). IsAccepted (plain_workload v)) c.workload.ensures c.workload-workload.ensures.accepted in
     let can = can_here w calls.result.now n call accepted calls.ensures within c.index-calls-number.is in
-    let h = form_here w _ _ calls.result.now n call c.forms.ensures calls.ensures within c.index-calls-number.is in
+    let h = form_here w _ _ calls.result.now n call c.forms.ensures.forms calls.ensures within c.index-calls-number.is in
     let form = one_placed (map plain_lcommand c.forms.result.now.forms.items) _ (plain_lcommand c.form-form.result.now) (ground_form w (plain_ground call)) c.form-form.ensures h.at in
     ap (λ (d : Command). can_exec run_limit d (whole (values_of c.as_slice.result.now))) form
     ∙ ap (λ values. can_exec run_limit (ground_form w (plain_ground call)) (whole (values_of values))) c.as_slice.ensures
@@ -68,7 +68,7 @@ taken_is c =
     let n = c.args.number in
     let call = c.index-calls-number.result in
     let within = ground_below w calls.result.now n calls.ensures c.requires.number in
-    let h = form_here w _ _ calls.result.now n call c.forms.ensures calls.ensures within c.index-calls-number.is in
+    let h = form_here w _ _ calls.result.now n call c.forms.ensures.forms calls.ensures within c.index-calls-number.is in
     let form = one_placed (map plain_lcommand c.forms.result.now.forms.items) _ (plain_lcommand c.form-form.result.now) (ground_form w (plain_ground call)) c.form-form.ensures h.at in
     let commands =
     c.in_ok-commands.ensures

@@ -4,7 +4,7 @@ use Rattle.std.specs.List.{list_any}
 use Rattle.homeo_syntax.specs.LowView.{plain_lcommand}
 use Rattle.homeo_syntax.specs.SourceView.{plain_workload}
 use Rattle.homeo_meaning.specs.Ground.{plain_ground}
-use Rattle.homeo_build.proofs.FormsMade.{stay_pushed, same_body, put_new, put_old, found_form}
+use Rattle.homeo_build.proofs.FormsMade.{stay_pushed, same_body, put_new, put_old, found_form, keys_put}
 use Rattle.homeo_build.proofs.forms.Bodies.place.Goals as goal
 
 pub returns-then-is_new-clause-bodies : goal.returns-then-is_new-clause-bodies
@@ -45,3 +45,13 @@ returns-clause-place c =
     let set = c.in_ok-place.ensures in
     found_form w g c.in_ok-body.body c.in_ok-body.ensures.transaction c.in_ok-body.ensures.args c.insert_full.new.self.keys (map plain_lcommand c.args.self.now.forms.items)
     c.in_ok-place.place set.stored.0 (returns-clause-bodies c) set.stored.1 set.stored.2
+
+pub returns-then-is_new-clause-keys : goal.returns-then-is_new-clause-keys
+returns-then-is_new-clause-keys c =
+    keys_put (plain_ground c.args.call.now) c.in_ok-body.body c.args.self.now.bodies.keys c.insert_full.new.self.keys
+    c.in_ok-body.ensures.transaction c.in_ok-body.ensures.args c.in_ok-place.ensures.keys
+
+pub returns-clause-keys : goal.returns-clause-keys
+returns-clause-keys c =
+    keys_put (plain_ground c.args.call.now) c.in_ok-body.body c.args.self.now.bodies.keys c.insert_full.new.self.keys
+    c.in_ok-body.ensures.transaction c.in_ok-body.ensures.args c.in_ok-place.ensures.keys
