@@ -184,7 +184,7 @@ module _
 
 -- bases that have one value for each of these objects
 abbrev pub same_value : List ℤ → List ℤ → ℕ → Bool
-same_value last base x = int_eq (slice_index_or last x (pos 0)) (slice_index_or base x (pos 0))
+same_value last base x = int_eq (values_of last x) (values_of base x)
 
 pub values_same :
     (last base : List ℤ) (xs : List ℕ) → list_all (same_value last base) xs ≡ true → Each (λ x. values_of last x ≡ values_of base x) xs
