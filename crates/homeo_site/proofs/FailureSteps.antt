@@ -1,11 +1,12 @@
 -- Along numbers, the first that fails is the first that fails of those that are left.
-use Rattle.std.proofs.Common.{◌≡◌, ℕ, zero, suc, ◌+◌, ◌<◌, ◌≤◌, List, [], ◌∷◌, length, get_or, drop, true, false, Option, Some, None, is_some, map, pos, refl, sym, ap, ◌∙◌, arith}
+use Rattle.std.proofs.Common.{◌≡◌, ℕ, zero, suc, ◌+◌, ◌<◌, ◌≤◌, List, [], ◌∷◌, length, get_or, drop, true, false, Option, Some, None, is_some, map, ℤ, pos, All, refl, sym, ap, ap₂, ◌∙◌, subst, arith}
 use Rattle.homeo_plan.specs.declared.treaty.Broken.{Broken}
-use Rattle.homeo_site.specs.Key.{definitions}
+use Rattle.homeo_plan.specs.declared.templates.Clause.{Clause}
 use Rattle.homeo_plan.specs.Joined.{Deltas}
-use Rattle.homeo_site.specs.declared.own_treaty.OwnClause as code
+use Rattle.homeo_site.specs.Key.{definitions}
 use Rattle.homeo_site.specs.inner.Failures.{sum_failure, first_of, first_failure, own_failure}
-use Rattle.homeo_site.specs.OwnTreaty.{own_sum, plain_own}
+use Rattle.homeo_site.specs.inner.Parts.{own_term, with_bounds}
+use Rattle.homeo_site.specs.OwnTreaty.{OwnClause, own_sum, SumsFit}
 
 at_place : (f : ℕ → Option Broken) (ns : List ℕ) (k d : ℕ) → k < length ns →
     first_failure f (drop k ns) ≡ first_of (f (get_or ns k d)) (first_failure f (drop (suc k) ns))
@@ -59,18 +60,38 @@ pub passed_none :
 passed_none f ns k d None lt so_far e none = passed f ns k d lt so_far (sym e)
 passed_none f ns k d (Some b) lt so_far e none = cc
 
--- what fails of the clause of a number
-pub clause_at :
-    (cs : List code.OwnClause) (x : Deltas) (n : ℕ) (c : code.OwnClause) → n < length cs → c ≡ get_or cs n c →
-    own_failure (map plain_own cs) x n ≡ sum_failure n (own_sum c.terms.items x) c.bound
+-- ---- the clause of a number, with its bound
+pub clause_there :
+    (cs : List Clause) (bs : List ℤ) (n : ℕ) (c : Clause) (b : ℤ) (d : OwnClause) → n < length cs → n < length bs → c ≡ get_or cs n c →
+    b ≡ get_or bs n b → get_or (with_bounds cs bs) n d ≡ record { terms = map own_term c.terms.items; bound = b }
 unfolding definitions
-clause_at [] x n c lt e = absurd (omega arith)
-clause_at (a ∷ cs) x n c lt e = at (a ∷ cs) n lt e
+clause_there [] bs n c b d lt less at bound = absurd (omega arith)
+clause_there (a ∷ cs) [] n c b d lt less at bound = absurd (omega arith)
+clause_there (a ∷ cs) (z ∷ bs) zero c b d lt less at bound =
+    ap₂ (λ (o : Clause) y. record { terms = map own_term o.terms.items; bound = y }) (sym at) (sym bound)
+clause_there (a ∷ cs) (z ∷ bs) (suc n) c b d lt less at bound = clause_there cs bs n c b d (omega arith) (omega arith) at bound
+
+-- what fails of it
+pub clause_at :
+    (cs : List Clause) (bs : List ℤ) (x : Deltas) (n : ℕ) (c : Clause) (b : ℤ) → n < length cs → n < length bs → c ≡ get_or cs n c →
+    b ≡ get_or bs n b → own_failure (with_bounds cs bs) x n ≡ sum_failure n (own_sum (map own_term c.terms.items) x) b
+unfolding definitions
+clause_at cs bs x n c b lt less at bound =
+    ap (λ (o : OwnClause). sum_failure n (own_sum o.terms x) o.bound)
+    (clause_there cs bs n c b (record { terms = []; bound = pos 0 }) lt less at bound)
+
+-- its sums fit where those of all do
+pub clause_fits :
+    (cs : List Clause) (bs : List ℤ) (x : Deltas) (n : ℕ) (c : Clause) (b : ℤ) → n < length cs → n < length bs → c ≡ get_or cs n c →
+    b ≡ get_or bs n b → All (λ (o : OwnClause). SumsFit o.terms x) (with_bounds cs bs) → SumsFit (map own_term c.terms.items) x
+clause_fits cs bs x n c b lt less at bound fit =
+    let d : OwnClause = record { terms = []; bound = pos 0 } in
+    subst (λ (o : OwnClause). SumsFit o.terms x) (clause_there cs bs n c b d lt less at bound)
+    (fit n d (with_count cs bs n lt less))
   where
-    at :
-        (ds : List code.OwnClause) (m : ℕ) → m < length ds → c ≡ get_or ds m c →
-        sum_failure n (own_sum (get_or (map plain_own ds) m (record { terms = []; bound = pos 0 })).terms x)
-        (get_or (map plain_own ds) m (record { terms = []; bound = pos 0 })).bound ≡ sum_failure n (own_sum c.terms.items x) c.bound
-    at [] m lt e = absurd (omega arith)
-    at (d ∷ ds) zero lt e = ap (λ (o : code.OwnClause). sum_failure n (own_sum o.terms.items x) o.bound) (sym e)
-    at (d ∷ ds) (suc m) lt e = at ds m (omega arith) e
+    with_count : (as : List Clause) (zs : List ℤ) (m : ℕ) → m < length as → m < length zs → m < length (with_bounds as zs)
+    unfolding definitions
+    with_count [] zs m lt less = absurd (omega arith)
+    with_count (a ∷ as) [] m lt less = absurd (omega arith)
+    with_count (a ∷ as) (z ∷ zs) zero lt less = omega arith
+    with_count (a ∷ as) (z ∷ zs) (suc m) lt less = let rest = with_count as zs m (omega arith) (omega arith) in omega (arith, rest)
