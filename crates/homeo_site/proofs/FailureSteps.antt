@@ -81,17 +81,17 @@ clause_at cs bs x n c b lt less at bound =
     (clause_there cs bs n c b (record { terms = []; bound = pos 0 }) lt less at bound)
 
 -- its sums fit where those of all do
+is_among :
+    (cs : List Clause) (bs : List ℤ) (n : ℕ) → n < length cs → n < length bs → n < length (with_bounds cs bs)
+unfolding definitions
+is_among [] bs n lt less = absurd (omega arith)
+is_among (c ∷ cs) [] n lt less = absurd (omega arith)
+is_among (c ∷ cs) (b ∷ bs) zero lt less = omega arith
+is_among (c ∷ cs) (b ∷ bs) (suc n) lt less = let rest = is_among cs bs n (omega arith) (omega arith) in omega (arith, rest)
+
 pub clause_fits :
     (cs : List Clause) (bs : List ℤ) (x : Deltas) (n : ℕ) (c : Clause) (b : ℤ) → n < length cs → n < length bs → c ≡ get_or cs n c →
     b ≡ get_or bs n b → All (λ (o : OwnClause). SumsFit o.terms x) (with_bounds cs bs) → SumsFit (map own_term c.terms.items) x
 clause_fits cs bs x n c b lt less at bound fit =
-    let d : OwnClause = record { terms = []; bound = pos 0 } in
-    subst (λ (o : OwnClause). SumsFit o.terms x) (clause_there cs bs n c b d lt less at bound)
-    (fit n d (with_count cs bs n lt less))
-  where
-    with_count : (as : List Clause) (zs : List ℤ) (m : ℕ) → m < length as → m < length zs → m < length (with_bounds as zs)
-    unfolding definitions
-    with_count [] zs m lt less = absurd (omega arith)
-    with_count (a ∷ as) [] m lt less = absurd (omega arith)
-    with_count (a ∷ as) (z ∷ zs) zero lt less = omega arith
-    with_count (a ∷ as) (z ∷ zs) (suc m) lt less = let rest = with_count as zs m (omega arith) (omega arith) in omega (arith, rest)
+    let none : OwnClause = record { terms = []; bound = pos 0 } in
+    subst (λ (o : OwnClause). SumsFit o.terms x) (clause_there cs bs n c b none lt less at bound) (fit n none (is_among cs bs n lt less))

@@ -46,6 +46,7 @@ fn own_bound(plan: &ObjectPlan, clause: usize, site: u32) -> i128
 }
 
 /// The bounds of a site in a plan's clauses, one for each.
+#[tactic(auto, unfolding(crate::specs::Key::definitions))]
 fn own_bounds(alloc: Global, plan: &ObjectPlan, site: u32) -> Result<List<i128>, Memory>
     requires { CanKeep plan.now site }
     ensures { IfOk result (λ bounds. bounds.items ≡ own_bounds site (template_in plan.now).clauses (config_in plan.now)) }

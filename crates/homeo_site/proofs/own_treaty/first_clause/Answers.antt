@@ -31,7 +31,16 @@ returns-then-is_some c =
     (c.clause_failure-failure.ensures ∙ sym here) some
 
 pub loop-number-preserved : goal.loop-number-preserved
-loop-number-preserved c = ?
+loop-number-preserved c =
+    let cs = c.args.clauses.now in
+    let x = values_of c.args.deltas.now in
+    let lt = c.requires.numbers c.loop-number.number-index 0 c.loop-number-test.true in
+    let less = subst (λ m. _ < m) (sym c.requires.bounds) lt in
+    let here =
+    clause_at cs c.args.bounds.now x _ c.index-clauses-n.result c.index-bounds-n.result lt less c.index-clauses-n.is c.index-bounds-n.is in
+    let none : is_some c.clause_failure-failure.result ≡ false = search rules in
+    passed_none (own_failure (with_bounds cs c.args.bounds.now) x) c.args.numbers.now c.loop-number.number-index 0
+    c.clause_failure-failure.result c.loop-number-test.true c.loop-number.invariant (c.clause_failure-failure.ensures ∙ sym here) none
 
 pub returns : goal.returns
 returns c =

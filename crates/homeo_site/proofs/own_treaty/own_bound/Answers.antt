@@ -17,15 +17,17 @@ pub even_bound-requires-clause-not_negative : goal.even_bound-requires-clause-no
 even_bound-requires-clause-not_negative c =
     let cs = c.args.plan.now.template.clauses.items in
     let lt = subst (λ (l : List Clause). c.args.clause < length l) (sym c.as_slice-clauses.ensures) c.requires.clause in
-    slack_is cs c.as_slice-clauses.result.now c.args.clause c.index-clauses-clause.result c.as_slice-clauses.ensures lt
-    c.index-clauses-clause.is c.requires.keeps.small (λ z. pos 0 ≤ℤ z) c.requires.keeps.not_negative
+    subst (λ (d : Clause). pos 0 ≤ℤ to_z w128 (of_z w128 d.slack)) c.index-clauses-clause.is
+    (slack_is cs c.as_slice-clauses.result.now c.args.clause c.index-clauses-clause.result c.as_slice-clauses.ensures lt
+    c.index-clauses-clause.is c.requires.keeps.small (λ z. pos 0 ≤ℤ z) c.requires.keeps.not_negative)
 
 pub even_bound-requires-clause-small : goal.even_bound-requires-clause-small
 even_bound-requires-clause-small c =
     let cs = c.args.plan.now.template.clauses.items in
     let lt = subst (λ (l : List Clause). c.args.clause < length l) (sym c.as_slice-clauses.ensures) c.requires.clause in
-    slack_is cs c.as_slice-clauses.result.now c.args.clause c.index-clauses-clause.result c.as_slice-clauses.ensures lt
-    c.index-clauses-clause.is c.requires.keeps.small (λ z. IsSmall form_limit z) c.requires.keeps.small
+    subst (λ (d : Clause). IsSmall form_limit (to_z w128 (of_z w128 d.slack))) c.index-clauses-clause.is
+    (slack_is cs c.as_slice-clauses.result.now c.args.clause c.index-clauses-clause.result c.as_slice-clauses.ensures lt
+    c.index-clauses-clause.is c.requires.keeps.small (λ z. IsSmall form_limit z) c.requires.keeps.small)
 
 pub returns-in-None : goal.returns-in-None
 unfolding definitions
@@ -39,7 +41,8 @@ returns-in-None c =
     let lt = subst (λ (l : List Clause). c.args.clause < length l) (sym c.as_slice-clauses.ensures) c.requires.clause in
     let at = c.index-clauses-clause.is ∙ ap (λ (l : List Clause). get_or l c.args.clause c.index-clauses-clause.result) c.as_slice-clauses.ensures in
     let slack =
-    slack_as cs lent c.args.clause c.index-clauses-clause.result c.as_slice-clauses.ensures lt c.index-clauses-clause.is c.requires.keeps.small in
+    ap (λ (d : Clause). to_z w128 (of_z w128 d.slack)) (sym c.index-clauses-clause.is)
+    ∙ slack_as cs lent c.args.clause c.index-clauses-clause.result c.as_slice-clauses.ensures lt c.index-clauses-clause.is c.requires.keeps.small in
     back
     ∙ even_there p.template.sites c.args.site cs c.args.clause c.index-clauses-clause.result _ bound c.requires.clause at slack c.even_bound.ensures
     ∙ ap (λ bounds. bound_at (get_or (config_or (even p.template.sites (template_in p).clauses) bounds) c.args.clause []) c.args.site)
