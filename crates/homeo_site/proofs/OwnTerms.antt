@@ -17,7 +17,7 @@ use Rattle.homeo_plan.specs.declared.templates.Clause as code
 use Rattle.homeo_follow.specs.Key.{definitions as follow_definitions}
 use Rattle.homeo_follow.specs.ObjectTemplate.{expanded_clause}
 use Rattle.homeo_site.specs.Key.{definitions}
-use Rattle.homeo_site.specs.OwnTreaty.{OwnTerm, own_terms, own_sum, SumsFit, OwnClause, own_clauses}
+use Rattle.homeo_site.specs.OwnTreaty.{OwnTerm, own_terms, own_sum, SumsFit, own_clauses}
 use Rattle.homeo_site.specs.inner.Parts.{own_term, own_bounds, with_bounds}
 use Rattle.homeo_site.proofs.ObjectTerms.{own_all}
 

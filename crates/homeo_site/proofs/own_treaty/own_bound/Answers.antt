@@ -33,20 +33,22 @@ pub returns-in-None : goal.returns-in-None
 unfolding definitions
 returns-in-None c =
     let p = c.args.plan.now in
+    let k = p.template.sites in
     let cs = p.template.clauses.items in
-    let lent = c.as_slice-clauses.result.now in
+    let lent = c.as_slice-clauses.ensures in
+    let n = c.args.clause in
+    let d = c.index-clauses-clause.result in
     let bound = c.even_bound.result in
     let fits : SFits w128 bound = search rules in
     let back : to_z w128 (of_z w128 bound) ≡ bound = to_z-of_z w128 bound fits in
-    let lt = subst (λ (l : List Clause). c.args.clause < length l) (sym c.as_slice-clauses.ensures) c.requires.clause in
-    let at = c.index-clauses-clause.is ∙ ap (λ (l : List Clause). get_or l c.args.clause c.index-clauses-clause.result) c.as_slice-clauses.ensures in
+    let lt = subst (λ (l : List Clause). n < length l) (sym lent) c.requires.clause in
     let slack =
-    ap (λ (d : Clause). to_z w128 (of_z w128 d.slack)) (sym c.index-clauses-clause.is)
-    ∙ slack_as cs lent c.args.clause c.index-clauses-clause.result c.as_slice-clauses.ensures lt c.index-clauses-clause.is c.requires.keeps.small in
+    ap (λ (e : Clause). to_z w128 (of_z w128 e.slack)) (sym c.index-clauses-clause.is)
+    ∙ slack_as cs c.as_slice-clauses.result.now n d lent lt c.index-clauses-clause.is c.requires.keeps.small in
     back
-    ∙ even_there p.template.sites c.args.site cs c.args.clause c.index-clauses-clause.result _ bound c.requires.clause at slack c.even_bound.ensures
-    ∙ ap (λ bounds. bound_at (get_or (config_or (even p.template.sites (template_in p).clauses) bounds) c.args.clause []) c.args.site)
-    (sym c.in-None.is)
+    ∙ even_there k c.args.site cs n d _ bound c.requires.clause
+    (c.index-clauses-clause.is ∙ ap (λ (l : List Clause). get_or l n d) lent) slack c.even_bound.ensures
+    ∙ ap (λ bounds. bound_at (get_or (config_or (even k (template_in p).clauses) bounds) n []) c.args.site) (sym c.in-None.is)
 
 pub returns-in-Some : goal.returns-in-Some
 unfolding definitions

@@ -18,16 +18,19 @@ own_bound-requires-clause-clause c =
 pub loop-clause-preserved : goal.loop-clause-preserved
 loop-clause-preserved c =
     let p = c.args.plan.now in
+    let n = c.loop-clause.clause in
     let bound = c.own_bound.result in
     let fits : SFits w128 bound = search rules in
     let back : to_z w128 (of_z w128 bound) ≡ bound = to_z-of_z w128 bound fits in
-    let lt = subst (λ m. c.loop-clause.clause < m) (template_count p c.as_slice-count.result.now c.as_slice-count.ensures) c.loop-clause-test.true in
-    bound_pushed c.args.site (template_in p).clauses (config_in p) c.loop-clause.clause _ c.loop-clause.bounds.items _ lt c.loop-clause.invariant
-    (back ∙ c.own_bound.ensures) c.in_ok-push.ensures.items
+    let count = template_count p c.as_slice-count.result.now c.as_slice-count.ensures in
+    bound_pushed c.args.site (template_in p).clauses (config_in p) n _ c.loop-clause.bounds.items _
+    (subst (λ m. n < m) count c.loop-clause-test.true) c.loop-clause.invariant (back ∙ c.own_bound.ensures) c.in_ok-push.ensures.items
 
 pub returns : goal.returns
 returns c =
     let p = c.args.plan.now in
-    let past = subst (λ m. m ≤ c.loop-clause.clause) (template_count p c.as_slice-count.result.now c.as_slice-count.ensures) c.loop-clause-test.false in
+    let n = c.loop-clause.clause in
+    let count = template_count p c.as_slice-count.result.now c.as_slice-count.ensures in
     ap (λ (l : Listed ℤ). l.items) c.from_vec.ensures ∙ c.loop-clause.invariant
-    ∙ ap (λ (cs : List Clause). own_bounds c.args.site cs (config_in p)) (take_all c.loop-clause.clause (template_in p).clauses past)
+    ∙ ap (λ (cs : List Clause). own_bounds c.args.site cs (config_in p))
+    (take_all n (template_in p).clauses (subst (λ m. m ≤ n) count c.loop-clause-test.false))

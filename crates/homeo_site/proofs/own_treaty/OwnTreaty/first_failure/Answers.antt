@@ -1,7 +1,6 @@
 -- What the site checks of the plan's clauses and freezes fails as the treaty does.
 use Rattle.std.proofs.Common.{◌≡◌, All, ◌+◌, ◌<◌, ◌≤◌, length, is_some, sym, ap, ap₂, ◌∙◌, subst}
 use Rattle.homeo_meaning.specs.Serial.{values_of}
-use Rattle.homeo_follow.specs.ObjectPlan.{template_in, config_in}
 use Rattle.homeo_follow.specs.declared.plan.ObjectPlan.{ObjectPlan}
 use Rattle.homeo_site.specs.TreatyPart.{TreatyPart}
 use Rattle.homeo_site.specs.inner.Failures.{first_of, first_failure, own_failure, own_freeze_failure}
@@ -67,7 +66,8 @@ returns c =
     let cl = c.args.clauses.now in
     let clauses = c.as_slice-all.ensures ∙ ap (λ (q : ObjectPlan). q.template.clauses.items) c.deref.ensures in
     let own =
-    checks_own p in'.site in'.bounds.items in'.index c.self.invariant c.as_slice-all.result.now c.as_slice.result.now clauses c.as_slice.ensures in
+    checks_own p in'.site in'.bounds.items in'.index c.self.invariant c.as_slice-all.result.now c.as_slice.result.now
+    clauses c.as_slice.ensures in
     let same = c.first_clause-failure.ensures ∙ ap (λ os. first_failure (own_failure os x) cl) own in
     let count = template_count p c.as_slice-all.result.now clauses in
     let freezes =
