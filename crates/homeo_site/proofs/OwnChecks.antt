@@ -1,46 +1,22 @@
--- A site's clauses are as many as the template's, and what is true of these is true of them.
-use Rattle.std.proofs.Common.{◌≡◌, ℕ, suc, ◌+◌, ◌<◌, ◌≤◌, List, [], ◌∷◌, map, length, All, true, false, Option, Some, None, is_some, refl, sym, ap, ◌∙◌, subst}
+-- What a site checks of a plan's clauses, with its own bounds, is what the treaty says of its deltas.
+use Rattle.std.proofs.Common.{◌≡◌, ℕ, suc, ◌+◌, ◌<◌, ◌≤◌, List, [], ◌∷◌, map, length, ℤ, All, true, false, Option, Some, None, is_some, refl, sym, ap, ap₂, ◌∙◌, subst}
 use Rattle.std.proofs.lemmas.List.{length-map}
-use Rattle.std.proofs.lemmas.List.Elements.{All-nil, All-cons, All-head, All-tail}
 use Rattle.homeo_plan.specs.declared.treaty.Broken.{Broken}
 use Rattle.homeo_plan.specs.Template.{Clause}
 use Rattle.homeo_plan.specs.PlanView.{plain_clause}
 use Rattle.homeo_plan.specs.declared.forms.Delta.{Delta}
 use Rattle.homeo_plan.specs.declared.templates.Clause as clause
 use Rattle.homeo_plan.specs.Config.{Config}
-use Rattle.homeo_plan.specs.Joined.{Deltas}
 use Rattle.homeo_follow.specs.Key.{definitions as follow_definitions}
-use Rattle.homeo_follow.specs.ObjectPlan.{template_in}
+use Rattle.homeo_follow.specs.ObjectPlan.{template_in, config_in}
 use Rattle.homeo_follow.specs.ObjectTemplate.{expanded_clause}
 use Rattle.homeo_follow.specs.declared.plan.ObjectPlan.{ObjectPlan}
+use Rattle.homeo_effect.specs.Indexed.{Indexed}
 use Rattle.homeo_site.specs.Key.{definitions}
-use Rattle.homeo_site.specs.declared.own_treaty.OwnClause as code
 use Rattle.homeo_site.specs.inner.Failures.{first_of}
-use Rattle.homeo_site.specs.OwnTreaty.{OwnClause, plain_own, own_clauses, SumsFit}
-
-own_count : (i : ℕ) (cs : List Clause) (bs : Config) → length (own_clauses i cs bs) ≡ length cs
-unfolding definitions
-own_count i [] bs = refl
-own_count i (c ∷ cs) [] = ap suc (own_count i cs [])
-own_count i (c ∷ cs) (b ∷ bs) = ap suc (own_count i cs bs)
-
-pub numbers_there :
-    (i : ℕ) (cs : List Clause) (bs : Config) (own : List code.OwnClause) (ns : List ℕ) → map plain_own own ≡ own_clauses i cs bs →
-    All (λ n. n < length cs) ns → All (λ n. n < length own) ns
-numbers_there i cs bs own ns is h =
-    subst (λ m. All (λ n. n < m) ns) (sym (own_count i cs bs) ∙ sym (ap length is) ∙ length-map own plain_own) h
-
-of_each : (x : Deltas) (own : List code.OwnClause) → All (λ (c : OwnClause). SumsFit c.terms x) (map plain_own own) → All (λ (c : code.OwnClause). SumsFit c.terms.items x) own
-unfolding definitions
-of_each x [] h = All-nil (λ (c : code.OwnClause). SumsFit c.terms.items x)
-of_each x (c ∷ own) h =
-    All-cons (λ (c : code.OwnClause). SumsFit c.terms.items x) c own (All-head (λ (c : OwnClause). SumsFit c.terms x) _ _ h)
-    (of_each x own (All-tail (λ (c : OwnClause). SumsFit c.terms x) _ _ h))
-
-pub fits_there :
-    (i : ℕ) (cs : List Clause) (bs : Config) (own : List code.OwnClause) (x : Deltas) → map plain_own own ≡ own_clauses i cs bs →
-    All (λ (c : OwnClause). SumsFit c.terms x) (own_clauses i cs bs) → All (λ (c : code.OwnClause). SumsFit c.terms.items x) own
-fits_there i cs bs own x is h = of_each x own (subst (λ os. All (λ (c : OwnClause). SumsFit c.terms x) os) (sym is) h)
+use Rattle.homeo_site.specs.inner.Parts.{with_bounds, IsOwnTreaty}
+use Rattle.homeo_site.specs.OwnTreaty.{OwnClause, own_clauses}
+use Rattle.homeo_site.proofs.OwnTerms.{with_own_bounds}
 
 -- ---- the first of two
 first_is : (a b : Option Broken) → is_some a ≡ true → a ≡ first_of a b
@@ -77,3 +53,30 @@ pub freezes_there :
 freezes_there p cs ds ns clauses freezes h =
     subst (λ (l : List Delta). All (λ n. (length cs ≤ n) × (n < length cs + length l)) ns) (sym (template_freezes p ds freezes))
     (subst (λ m. All (λ n. (m ≤ n) × (n < m + length (template_in p).freezes)) ns) (sym (template_count p cs clauses)) h)
+
+-- ---- what a site checks of the clauses of a plan, with its bounds
+own_count : (i : ℕ) (cs : List Clause) (bs : Config) → length (own_clauses i cs bs) ≡ length cs
+unfolding definitions
+own_count i [] bs = refl
+own_count i (c ∷ cs) [] = ap suc (own_count i cs [])
+own_count i (c ∷ cs) (b ∷ bs) = ap suc (own_count i cs bs)
+
+module _
+    (p : ObjectPlan) (i : ℕ) (own : List ℤ) (x : Indexed) (kept : IsOwnTreaty p i own x) (cs : List clause.Clause) (bs : List ℤ)
+    (same : cs ≡ p.template.clauses.items) (bounds : bs ≡ own)
+  where
+    pub bounds_count : length bs ≡ length cs
+    unfolding definitions
+    bounds_count =
+        ap length (bounds ∙ kept.bounds)
+        ∙ length-map (own_clauses i (template_in p).clauses (config_in p)) (λ (c : OwnClause). c.bound)
+        ∙ own_count i (template_in p).clauses (config_in p) ∙ sym (template_count p cs same)
+
+    pub numbers_there : (ns : List ℕ) → All (λ n. n < length (template_in p).clauses) ns → All (λ n. n < length cs) ns
+    numbers_there ns h = subst (λ m. All (λ n. n < m) ns) (sym (template_count p cs same)) h
+
+    pub checks_own : with_bounds cs bs ≡ own_clauses i (template_in p).clauses (config_in p)
+    unfolding follow_definitions
+    checks_own =
+        ap₂ with_bounds same (bounds ∙ kept.bounds)
+        ∙ with_own_bounds p.template.sites i kept.site p.template.clauses.items (config_in p)

@@ -18,8 +18,7 @@ use Rattle.homeo_plan.specs.Joined.{Deltas}
 use Rattle.homeo_plan.specs.Linear.{delta_before}
 use Rattle.homeo_plan.proofs.Order.{Above, Sorted}
 use Rattle.homeo_site.specs.Key.{definitions}
-use Rattle.homeo_site.specs.declared.own_treaty.OwnTerm.{OwnTerm}
-use Rattle.homeo_site.specs.OwnTreaty.{own_terms, own_sum, SumsFit}
+use Rattle.homeo_site.specs.OwnTreaty.{OwnTerm, own_terms, own_sum, SumsFit}
 use Rattle.homeo_site.proofs.TemplateClauses.{factor_limit}
 
 -- the objects rise, from m on

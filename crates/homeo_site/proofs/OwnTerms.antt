@@ -1,10 +1,10 @@
--- The terms of a site, one clause after another, and their sums.
+-- The terms of a site, their sums, and its bounds, one clause after another.
 use Rattle.std.proofs.Common.{◌≡◌, ℕ, zero, suc, ◌+◌, ◌<◌, ◌≤◌, ◌==◌, Bool, true, false, cond, List, [], ◌∷◌, ◌++◌, length, get_or, map, take, ℤ, pos, ◌+ℤ◌, ◌*ℤ◌, refl, sym, ap, ap₂, ◌∙◌, subst, FitsSigned, arith}
 use Rattle.std.proofs.lemmas.Int.{ints}
 use Rattle.std.specs.Int.{w128}
 use Rattle.std.specs.Prelude.{replicate}
 use Rattle.std.proofs.Math.Seq.{take-length}
-use Rattle.std.proofs.lemmas.List.{take_more, map-append}
+use Rattle.std.proofs.lemmas.List.{map_more, take-map, get_or-map, length-map}
 use Rattle.homeo_syntax.specs.Listed.{Listed}
 use Rattle.homeo_plan.specs.Key.{definitions as plan_definitions}
 use Rattle.homeo_plan.specs.declared.forms.Term.{Term}
@@ -15,13 +15,10 @@ use Rattle.homeo_plan.specs.Template.{Clause}
 use Rattle.homeo_plan.specs.Treaty.{site_sum, bound_at}
 use Rattle.homeo_plan.specs.declared.templates.Clause as code
 use Rattle.homeo_follow.specs.Key.{definitions as follow_definitions}
-use Rattle.homeo_follow.specs.Expanded.{expanded_terms}
 use Rattle.homeo_follow.specs.ObjectTemplate.{expanded_clause}
 use Rattle.homeo_site.specs.Key.{definitions}
-use Rattle.homeo_site.specs.declared.own_treaty.OwnTerm.{OwnTerm}
-use Rattle.homeo_site.specs.OwnTreaty.{own_terms, own_sum, SumsFit, OwnClause, plain_own, own_clauses}
-use Rattle.homeo_site.specs.declared.own_treaty.OwnClause as code_own
-use Rattle.homeo_site.specs.inner.Parts.{own_term}
+use Rattle.homeo_site.specs.OwnTreaty.{OwnTerm, own_terms, own_sum, SumsFit, own_clauses}
+use Rattle.homeo_site.specs.inner.Parts.{own_term, own_bounds, with_bounds}
 use Rattle.homeo_site.proofs.ObjectTerms.{own_all}
 
 -- a site's sum is that of its own terms
@@ -42,33 +39,36 @@ unfolding definitions
 sum_append [] us x = omega (arith, ints)
 sum_append (t ∷ ts) us x = omega (arith, ints, sum_append ts us x)
 
--- the next term is added to the sum
-pub sum_more :
-    (ts : List OwnTerm) (k : ℕ) (d : OwnTerm) (x : Deltas) → k < length ts →
-    own_sum (take (k + 1) ts) x ≡ own_sum (take k ts) x +ℤ ((get_or ts k d).factor *ℤ x (get_or ts k d).object)
+-- ---- steps of the sum, whose terms are over whole objects
+pub sum_next :
+    (ts : List Term) (k : ℕ) (d : Term) (x : Deltas) (sum next : ℤ) → k < length ts → sum ≡ own_sum (map own_term (take k ts)) x →
+    next ≡ sum +ℤ ((get_or ts k d).factor *ℤ x (get_or ts k d).delta.object) → next ≡ own_sum (map own_term (take (k + 1) ts)) x
 unfolding definitions
-sum_more ts k d x lt =
-    ap (λ us. own_sum us x) (take_more ts k d lt) ∙ sum_append (take k ts) (get_or ts k d ∷ []) x
-    ∙ ap (λ z. own_sum (take k ts) x +ℤ z) (last ((get_or ts k d).factor *ℤ x (get_or ts k d).object))
+sum_next ts k d x sum next lt so_far e =
+    e ∙ ap₂ ◌+ℤ◌ so_far (last ((get_or ts k d).factor *ℤ x (get_or ts k d).delta.object))
+    ∙ sym (sum_append (map own_term (take k ts)) (own_term (get_or ts k d) ∷ []) x)
+    ∙ ap (λ us. own_sum us x) (sym (map_more own_term ts k d lt))
   where
-    last : (z : ℤ) → z +ℤ pos 0 ≡ z
+    last : (z : ℤ) → z ≡ z +ℤ pos 0
     last z = omega (arith, ints)
 
--- ---- steps of the loops
-pub sum_next :
-    (ts : List OwnTerm) (k : ℕ) (d : OwnTerm) (x : Deltas) (sum next : ℤ) → k < length ts → sum ≡ own_sum (take k ts) x →
-    next ≡ sum +ℤ ((get_or ts k d).factor *ℤ x (get_or ts k d).object) → next ≡ own_sum (take (k + 1) ts) x
-sum_next ts k d x sum next lt so_far e =
-    e ∙ ap (λ z. z +ℤ ((get_or ts k d).factor *ℤ x (get_or ts k d).object)) so_far ∙ sym (sum_more ts k d x lt)
+pub product_fits :
+    (ts : List Term) (k : ℕ) (d : Term) (x : Deltas) → k < length ts → SumsFit (map own_term ts) x →
+    FitsSigned w128 ((get_or ts k d).factor *ℤ x (get_or ts k d).delta.object)
+unfolding definitions
+product_fits ts k d x lt fits =
+    subst (λ (t : OwnTerm). FitsSigned w128 (t.factor *ℤ x t.object)) (get_or-map own_term ts k d (own_term d) lt)
+    (fits.products k (own_term d) (subst (λ n. k < n) (sym (length-map ts own_term)) lt))
 
 pub sum_fits :
-    (ts : List OwnTerm) (k : ℕ) (d : OwnTerm) (x : Deltas) (sum : ℤ) → k < length ts → sum ≡ own_sum (take k ts) x →
-    SumsFit ts x → FitsSigned w128 (sum +ℤ ((get_or ts k d).factor *ℤ x (get_or ts k d).object))
+    (ts : List Term) (k : ℕ) (d : Term) (x : Deltas) (sum : ℤ) → k < length ts → sum ≡ own_sum (map own_term (take k ts)) x →
+    SumsFit (map own_term ts) x → FitsSigned w128 (sum +ℤ ((get_or ts k d).factor *ℤ x (get_or ts k d).delta.object))
 sum_fits ts k d x sum lt so_far fits =
-    subst (FitsSigned w128) (sym (sum_next ts k d x sum _ lt so_far refl)) (fits.sums (k + 1))
+    subst (FitsSigned w128) (ap (λ us. own_sum us x) (take-map own_term (k + 1) ts) ∙ sym (sum_next ts k d x sum _ lt so_far refl))
+    (fits.sums (k + 1))
 
-pub all_sum : (ts : List OwnTerm) (x : Deltas) → own_sum (take (length ts) ts) x ≡ own_sum ts x
-all_sum ts x = ap (λ us. own_sum us x) (take-length ts)
+pub all_sum : (ts : List Term) (x : Deltas) → own_sum (map own_term (take (length ts) ts)) x ≡ own_sum (map own_term ts) x
+all_sum ts x = ap (λ us. own_sum (map own_term us) x) (take-length ts)
 
 -- ---- bounds
 bounds_at_place :
@@ -116,43 +116,35 @@ even_there k i cs n c slack bound lt at same is =
     is ∙ ap (λ z. bound_at (split (replicate k 1) z) i) (same ∙ ap (λ (d : code.Clause). d.slack) at)
     ∙ ap (λ b. bound_at b i) (sym (even_at k cs n c lt))
 
--- ---- clauses over whole objects
-module _ (k i : ℕ) where
-  -- over the deltas of k sites
-  abbrev spread : List code.Clause → List Clause
-  spread cs = map (expanded_clause k) (map plain_clause cs)
+-- ---- a site's bounds
+own_bound_more :
+    (i : ℕ) (cs : List Clause) (bs : Config) (n : ℕ) → n < length cs →
+    own_bounds i (take (suc n) cs) bs ≡ own_bounds i (take n cs) bs ++ bound_at (get_or bs n []) i ∷ []
+unfolding definitions plan_definitions
+own_bound_more i [] bs n lt = absurd (omega arith)
+own_bound_more i (c ∷ cs) [] zero lt = refl
+own_bound_more i (c ∷ cs) (b ∷ bs) zero lt = refl
+own_bound_more i (c ∷ cs) [] (suc n) lt = ap (λ bounds. pos 0 ∷ bounds) (own_bound_more i cs [] n (omega arith))
+own_bound_more i (c ∷ cs) (b ∷ bs) (suc n) lt = ap (λ bounds. bound_at b i ∷ bounds) (own_bound_more i cs bs n (omega arith))
 
-  own_clause_more :
-      (cs : List code.Clause) (bs : Config) (n : ℕ) (d : code.Clause) → n < length cs →
-      own_clauses i (spread (take (suc n) cs)) bs ≡
-      own_clauses i (spread (take n cs)) bs
-      ++ record { terms = own_terms i (expanded_terms k (get_or cs n d).terms.items); bound = bound_at (get_or bs n []) i } ∷ []
-  unfolding definitions plan_definitions follow_definitions
-  own_clause_more [] bs n d lt = absurd (omega arith)
-  own_clause_more (c ∷ cs) [] zero d lt = refl
-  own_clause_more (c ∷ cs) (b ∷ bs) zero d lt = refl
-  own_clause_more (c ∷ cs) [] (suc n) d lt =
-      ap (λ os. record { terms = own_terms i (expanded_terms k c.terms.items); bound = pos 0 } ∷ os) (own_clause_more cs [] n d (omega arith))
-  own_clause_more (c ∷ cs) (b ∷ bs) (suc n) d lt =
-      ap (λ os. record { terms = own_terms i (expanded_terms k c.terms.items); bound = bound_at b i } ∷ os) (own_clause_more cs bs n d (omega arith))
+pub bound_pushed :
+    (i : ℕ) (cs : List Clause) (bs : Config) (n : ℕ) (one : ℤ) (old new : List ℤ) → n < length cs →
+    old ≡ own_bounds i (take n cs) bs → one ≡ bound_at (get_or bs n []) i → new ≡ old ++ one ∷ [] →
+    new ≡ own_bounds i (take (n + 1) cs) bs
+bound_pushed i cs bs n one old new lt so_far bound e =
+    e ∙ ap₂ (λ bounds z. bounds ++ z ∷ []) so_far bound ∙ sym (own_bound_more i cs bs n lt) ∙ ap (λ m. own_bounds i (take m cs) bs) next
+  where
+    next : suc n ≡ n + 1
+    next = omega arith
 
-  pub clause_pushed :
-      i < k → (cs : List code.Clause) (bs : Config) (n : ℕ) (c : code.Clause) (one : code_own.OwnClause)
-      (old new : List code_own.OwnClause) → n < length cs → c ≡ get_or cs n c →
-      map plain_own old ≡ own_clauses i (spread (take n cs)) bs → one.terms.items ≡ map own_term c.terms.items →
-      one.bound ≡ bound_at (get_or bs n []) i → new ≡ old ++ one ∷ [] →
-      map plain_own new ≡ own_clauses i (spread (take (n + 1) cs)) bs
-  unfolding definitions
-  clause_pushed site cs bs n c one old new lt at so_far terms bound e =
-      ap (map plain_own) e ∙ map-append plain_own old (one ∷ [])
-      ∙ ap₂ (λ os (o : OwnClause). os ++ o ∷ []) so_far
-      (same (terms ∙ sym (own_all k i site c.terms.items) ∙ ap (λ (d : code.Clause). own_terms i (expanded_terms k d.terms.items)) at) bound)
-      ∙ sym (own_clause_more cs bs n c lt) ∙ ap (λ m. own_clauses i (spread (take m cs)) bs) next
-    where
-      next : suc n ≡ n + 1
-      next = omega arith
-
-      same :
-          {ts : List OwnTerm} {b : ℤ} → one.terms.items ≡ ts → one.bound ≡ b →
-          plain_own one ≡ record { terms = ts; bound = b }
-      same t b = λ j. record { terms = t j; bound = b j }
+-- clauses over whole objects with these bounds are those that a site keeps of all its deltas' clauses
+pub with_own_bounds :
+    (k i : ℕ) → i < k → (cs : List code.Clause) (bs : Config) →
+    with_bounds cs (own_bounds i (map (expanded_clause k) (map plain_clause cs)) bs) ≡
+    own_clauses i (map (expanded_clause k) (map plain_clause cs)) bs
+unfolding definitions plan_definitions follow_definitions
+with_own_bounds k i lt [] bs = refl
+with_own_bounds k i lt (c ∷ cs) [] =
+    ap₂ (λ ts os. record { terms = ts; bound = pos 0 } ∷ os) (sym (own_all k i lt c.terms.items)) (with_own_bounds k i lt cs [])
+with_own_bounds k i lt (c ∷ cs) (b ∷ bs) =
+    ap₂ (λ ts os. record { terms = ts; bound = bound_at b i } ∷ os) (sym (own_all k i lt c.terms.items)) (with_own_bounds k i lt cs bs)

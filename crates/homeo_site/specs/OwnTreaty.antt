@@ -7,8 +7,11 @@ use Rattle.homeo_plan.specs.Template.{Clause}
 use Rattle.homeo_plan.specs.Config.{Config}
 use Rattle.homeo_plan.specs.Treaty.{bound_at}
 use Rattle.homeo_site.specs.Key.{definitions}
-use Rattle.homeo_site.specs.declared.own_treaty.OwnTerm.{OwnTerm}
-use Rattle.homeo_site.specs.declared.own_treaty.OwnClause as code
+
+-- a factor, and the object of the own delta that is taken by it
+pub record OwnTerm : Type 0 where
+  pub object : ℕ
+  pub factor : ℤ
 
 -- the terms on deltas of site i
 abbrev pub own_terms : ℕ → List Term → List OwnTerm
@@ -32,10 +35,6 @@ pub record SumsFit (ts : List OwnTerm) (x : Deltas) : Type 0 where
 pub record OwnClause : Type 0 where
   pub terms : List OwnTerm
   pub bound : ℤ
-
-abbrev pub plain_own : code.OwnClause → OwnClause
-unfolding definitions
-plain_own c = record { terms = c.terms.items; bound = c.bound }
 
 -- of each clause, with the bounds that stand at its place: 0 where there are none
 abbrev pub own_clauses : ℕ → List Clause → Config → List OwnClause

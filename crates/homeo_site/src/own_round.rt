@@ -126,6 +126,13 @@ impl OwnRound {
         self.round
     }
 
+    /// Lends the plan of the round, which all sites share.
+    pub(crate) fn plan(&self) -> &ObjectPlan
+        ensures { IsObjectPlan (plain_workload self.now.work) self.now.base result.now }
+    {
+        &self.plan
+    }
+
     /// Takes the parts out, which are made if there are none.
     fn take_parts(&mut self, alloc: Global) -> Result<OwnParts, Memory>
         ensures same { self.new ≡ self.old }

@@ -2,6 +2,7 @@
 
 ghost use Rattle.std.specs.Prelude.{◌≡◌, ◌<◌, ◌≤◌, ◌-◌, All, length, pos, IfOk, OnOk, slice_index_or};
 ghost use Rattle.homeo_syntax.specs.SourceView.{plain_workload};
+ghost use Rattle.homeo_build.specs.Plan.{IsObjectPlan};
 ghost use Rattle.homeo_history.specs.HistoryView.{plain_segment};
 ghost use Rattle.homeo_history.specs.Legal.{IsCallAt};
 ghost use Rattle.homeo_site.specs.Attempts.{IsChange, IsOutcome, IsRoom, IsEmptyCopy, copied_prints};
@@ -11,6 +12,7 @@ use crate::attempts::{Change, Outcome, Room};
 use crate::lists::{copy_to_all, empty_copies, empty_prints, zeros};
 use crate::own_round::OwnRound;
 use crate::start::SiteStart;
+use homeo_follow::ObjectPlan;
 use homeo_history::{Entry, Segment};
 use homeo_meaning::{CallId, Database};
 use homeo_syntax::{List, Memory, Prints};
@@ -78,6 +80,13 @@ impl Site {
         self.own.round()
     }
 
+    /// Lends the plan of the round, which all sites share.
+    pub fn plan(&self) -> &ObjectPlan
+        ensures { IsObjectPlan (plain_workload self.now.work) self.now.state.base result.now }
+    {
+        self.own.plan()
+    }
+
     /// The site's delta of an object, which must be one of the workload's.
     pub fn delta(&self, object: u32) -> i64
         requires { object < length self.now.state.deltas }
@@ -123,8 +132,8 @@ impl Site {
     /// of a client of this site.
     ///
     /// The first room in a round makes the site's part of the treaty, in about the time and the memory of the plan's length: of
-    /// each clause the terms on the site's deltas and its bound, and for each of these deltas which clauses and freezes stand on
-    /// it; and a place for each ground call.
+    /// each clause the site's bound, and for each of the site's deltas which clauses and freezes stand on it; and a place for each
+    /// ground call.
     ///
     /// # Errors
     ///

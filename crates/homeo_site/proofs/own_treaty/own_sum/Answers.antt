@@ -2,7 +2,7 @@ use Rattle.std.proofs.Common.{◌≡◌, ◌∙◌, SFits, to_z, of_z, rules}
 use mir.Syntax.{w128}
 use Rattle.std.proofs.lemmas.Int.{to_z-of_z}
 use Rattle.homeo_meaning.specs.Serial.{values_of}
-use Rattle.homeo_site.proofs.OwnTerms.{sum_next, sum_fits}
+use Rattle.homeo_site.proofs.OwnTerms.{sum_next, product_fits, sum_fits}
 use Rattle.homeo_site.proofs.own_treaty.own_sum.Goals as goal
 
 pub loop-term-preserved : goal.loop-term-preserved
@@ -13,7 +13,8 @@ loop-term-preserved c =
     c.loop-term.invariant (back ∙ c.with_term-sum.ensures)
 
 pub with_term-sum-requires-clause-product : goal.with_term-sum-requires-clause-product
-with_term-sum-requires-clause-product c = c.requires.products c.loop-term.term-index _ c.loop-term-test.true
+with_term-sum-requires-clause-product c =
+    product_fits c.args.terms.now c.loop-term.term-index _ (values_of c.args.deltas.now) c.loop-term-test.true c.requires
 
 pub with_term-sum-requires-clause-total : goal.with_term-sum-requires-clause-total
 with_term-sum-requires-clause-total c =

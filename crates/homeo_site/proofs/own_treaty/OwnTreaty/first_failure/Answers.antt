@@ -1,41 +1,41 @@
--- What the site keeps of the template fails as the template does.
-use Rattle.std.proofs.Common.{◌≡◌, All, ◌+◌, ◌<◌, ◌≤◌, List, length, map, is_some, sym, ap, ap₂, ◌∙◌, subst}
+-- What the site checks of the plan's clauses and freezes fails as the treaty does.
+use Rattle.std.proofs.Common.{◌≡◌, All, ◌+◌, ◌<◌, ◌≤◌, length, is_some, sym, ap, ap₂, ◌∙◌, subst}
 use Rattle.homeo_meaning.specs.Serial.{values_of}
-use Rattle.homeo_follow.specs.ObjectPlan.{template_in, config_in}
 use Rattle.homeo_follow.specs.declared.plan.ObjectPlan.{ObjectPlan}
 use Rattle.homeo_site.specs.TreatyPart.{TreatyPart}
-use Rattle.homeo_site.specs.declared.own_treaty.OwnClause as code
 use Rattle.homeo_site.specs.inner.Failures.{first_of, first_failure, own_failure, own_freeze_failure}
-use Rattle.homeo_site.specs.OwnTreaty.{OwnClause, plain_own, own_clauses, SumsFit}
-use Rattle.homeo_site.proofs.OwnChecks.{numbers_there, fits_there, first_found, second_is, template_count, template_freezes, freezes_there}
+use Rattle.homeo_site.specs.OwnTreaty.{OwnClause, own_clauses, SumsFit}
+use Rattle.homeo_site.proofs.OwnChecks.{bounds_count, numbers_there, checks_own, first_found, second_is, template_count, template_freezes, freezes_there}
 use Rattle.homeo_site.proofs.own_treaty.OwnTreaty.first_failure.Goals as goal
+
+pub first_clause-failure-requires-clause-bounds : goal.first_clause-failure-requires-clause-bounds
+first_clause-failure-requires-clause-bounds c =
+    let in' = c.self.inside in
+    bounds_count in'.plan.value in'.site in'.bounds.items in'.index c.self.invariant c.as_slice-all.result.now c.as_slice.result.now
+    (c.as_slice-all.ensures ∙ ap (λ (q : ObjectPlan). q.template.clauses.items) c.deref.ensures) c.as_slice.ensures
 
 pub first_clause-failure-requires-clause-numbers : goal.first_clause-failure-requires-clause-numbers
 first_clause-failure-requires-clause-numbers c =
     let in' = c.self.inside in
-    let p = in'.plan.value in
-    let numbers =
-    subst (λ (v : TreatyPart). All (λ n. n < length v.template.clauses) c.args.clauses.now) (sym c.self.view_is) c.requires.clauses in
-    let all =
-    numbers_there in'.site (template_in p).clauses (config_in p) in'.clauses.items c.args.clauses.now
-    c.self.invariant.clauses numbers in
-    subst (λ (cs : List code.OwnClause). All (λ n. n < length cs) c.args.clauses.now) (sym c.as_slice.ensures) all
+    numbers_there in'.plan.value in'.site in'.bounds.items in'.index c.self.invariant c.as_slice-all.result.now c.as_slice.result.now
+    (c.as_slice-all.ensures ∙ ap (λ (q : ObjectPlan). q.template.clauses.items) c.deref.ensures) c.as_slice.ensures c.args.clauses.now
+    (subst (λ (v : TreatyPart). All (λ n. n < length v.template.clauses) c.args.clauses.now) (sym c.self.view_is) c.requires.clauses)
 
 pub first_clause-failure-requires-clause-fit : goal.first_clause-failure-requires-clause-fit
 first_clause-failure-requires-clause-fit c =
     let in' = c.self.inside in
-    let p = in'.plan.value in
     let x = values_of c.args.deltas.now in
-    let fit =
-    subst (λ (v : TreatyPart). All (λ (o : OwnClause). SumsFit o.terms x) (own_clauses v.site v.template.clauses v.config))
-    (sym c.self.view_is) c.requires.fit in
-    subst (λ (cs : List code.OwnClause). All (λ (o : code.OwnClause). SumsFit o.terms.items x) cs) (sym c.as_slice.ensures)
-    (fits_there in'.site (template_in p).clauses (config_in p) in'.clauses.items x c.self.invariant.clauses fit)
+    let own =
+    checks_own in'.plan.value in'.site in'.bounds.items in'.index c.self.invariant c.as_slice-all.result.now c.as_slice.result.now
+    (c.as_slice-all.ensures ∙ ap (λ (q : ObjectPlan). q.template.clauses.items) c.deref.ensures) c.as_slice.ensures in
+    subst (λ os. All (λ (o : OwnClause). SumsFit o.terms x) os) (sym own)
+    (subst (λ (v : TreatyPart). All (λ (o : OwnClause). SumsFit o.terms x) (own_clauses v.site v.template.clauses v.config))
+    (sym c.self.view_is) c.requires.fit)
 
 pub first_freeze-requires : goal.first_freeze-requires
 first_freeze-requires c =
-    freezes_there c.self.inside.plan.value c.as_slice-count.result.now c.as_slice-2.result.now c.args.freezes.now
-    (c.as_slice-count.ensures ∙ ap (λ (q : ObjectPlan). q.template.clauses.items) c.deref.ensures)
+    freezes_there c.self.inside.plan.value c.as_slice-all.result.now c.as_slice-2.result.now c.args.freezes.now
+    (c.as_slice-all.ensures ∙ ap (λ (q : ObjectPlan). q.template.clauses.items) c.deref.ensures)
     (c.as_slice-2.ensures ∙ ap (λ (q : ObjectPlan). q.template.freezes.items) c.deref.ensures)
     (subst
     (λ (v : TreatyPart). All
@@ -44,12 +44,13 @@ first_freeze-requires c =
 
 pub returns-then-is_some : goal.returns-then-is_some
 returns-then-is_some c =
+    let in' = c.self.inside in
     let x = values_of c.args.deltas.now in
     let cl = c.args.clauses.now in
-    let same =
-    c.first_clause-failure.ensures
-    ∙ ap (λ (os : List code.OwnClause). first_failure (own_failure (map plain_own os) x) cl) c.as_slice.ensures
-    ∙ ap (λ os. first_failure (own_failure os x) cl) c.self.invariant.clauses in
+    let own =
+    checks_own in'.plan.value in'.site in'.bounds.items in'.index c.self.invariant c.as_slice-all.result.now c.as_slice.result.now
+    (c.as_slice-all.ensures ∙ ap (λ (q : ObjectPlan). q.template.clauses.items) c.deref.ensures) c.as_slice.ensures in
+    let same = c.first_clause-failure.ensures ∙ ap (λ os. first_failure (own_failure os x) cl) own in
     subst
     (λ (v : TreatyPart). c.first_clause-failure.result ≡
     first_of (first_failure (own_failure (own_clauses v.site v.template.clauses v.config) x) cl)
@@ -63,12 +64,12 @@ returns c =
     let p = in'.plan.value in
     let x = values_of c.args.deltas.now in
     let cl = c.args.clauses.now in
-    let same =
-    c.first_clause-failure.ensures
-    ∙ ap (λ (os : List code.OwnClause). first_failure (own_failure (map plain_own os) x) cl) c.as_slice.ensures
-    ∙ ap (λ os. first_failure (own_failure os x) cl) c.self.invariant.clauses in
-    let count =
-    template_count p c.as_slice-count.result.now (c.as_slice-count.ensures ∙ ap (λ (q : ObjectPlan). q.template.clauses.items) c.deref.ensures) in
+    let clauses = c.as_slice-all.ensures ∙ ap (λ (q : ObjectPlan). q.template.clauses.items) c.deref.ensures in
+    let own =
+    checks_own p in'.site in'.bounds.items in'.index c.self.invariant c.as_slice-all.result.now c.as_slice.result.now
+    clauses c.as_slice.ensures in
+    let same = c.first_clause-failure.ensures ∙ ap (λ os. first_failure (own_failure os x) cl) own in
+    let count = template_count p c.as_slice-all.result.now clauses in
     let freezes =
     template_freezes p c.as_slice-2.result.now (c.as_slice-2.ensures ∙ ap (λ (q : ObjectPlan). q.template.freezes.items) c.deref.ensures) in
     let frozen =
