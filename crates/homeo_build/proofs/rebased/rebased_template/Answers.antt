@@ -1,6 +1,6 @@
 -- The template of the plan, with rebased clauses, is the one at the base.
 use Rattle.std.proofs.Common.{◌≡◌, List, map, ap, subst, sym, ◌∙◌}
-use Rattle.std.specs.declared.sync.Arc.{Arc}
+use Rattle.std.specs.Prelude.{IfSome}
 use Rattle.homeo_syntax.specs.LowView.{plain_lcommand}
 use Rattle.homeo_syntax.specs.SourceView.{plain_workload}
 use Rattle.homeo_meaning.specs.Serial.{values_of}
@@ -27,8 +27,9 @@ returns-clause-template c =
     let moved : map shared_part c.args.parts.now ≡ map (rebased g) (map shared_part last.parts.items) =
       c.are_rebased.ensures c.if-not-are_rebased.false
       ∙ (λ i. map (rebased (gains (values_of (from i)) (values_of (to i)))) (map shared_part (c.as_slice.ensures i))) in
+    let found : map plain_clause c.in-Some.clauses.items ≡ _ = subst (λ o. IfSome o _) c.in-Some.is c.in_ok-clauses.ensures in
     let clauses : map plain_clause c.in-Some.clauses.items ≡ map (rebased_clause g) t.clauses =
-      c.in_ok-clauses.ensures
+      found
       ∙ (λ i. map (rebased_clause (gains (values_of (from i)) (values_of (to i)))) (map plain_clause (c.as_slice-2.ensures i))) in
     let freezes : c.from_vec.result.items ≡ t.freezes = ap (λ l. l.items) c.from_vec.ensures ∙ c.in_ok-freezes.ensures.items ∙ c.as_slice-3.ensures in
     let there : expanded_template c.args.sites t ≡ _ = ap (λ k. expanded_template k t) (c.requires.sites ∙ sym c.requires.last.sites) ∙ c.requires.last.template in
