@@ -1,6 +1,7 @@
 //! What the L forms of a workload bring to the plans of its rounds.
 
-ghost use Rattle.std.specs.Prelude.{◌≡◌, ℕ, IfOk, IsTrue};
+ghost use Rattle.std.specs.Prelude.{◌≡◌, ℕ, IfOk};
+ghost use Rattle.std.specs.List.{list_all};
 ghost use Rattle.std.specs.Ordering.{int_eq};
 ghost use Rattle.homeo_syntax.specs.LowView.{plain_lcommand};
 ghost use Rattle.homeo_syntax.specs.SourceView.{plain_workload};
@@ -99,14 +100,7 @@ fn part_at(alloc: Global, form: &LCommand, base: &Database) -> Result<Arc<PlanPa
 
 /// Whether two bases have one value for each of these objects.
 fn stays(names: &[u32], last: &[i64], base: &[i64]) -> bool
-    ensures { IsTrue result → Each (λ x. values_of last.now x ≡ values_of base.now x) names.now }
+    ensures { result ≡ list_all (λ x. int_eq (values_of last.now x) (values_of base.now x)) names.now }
 {
-    names.iter().all(|x| has_same_value(last, base, *x))
-}
-
-/// Whether two bases have one value for an object.
-fn has_same_value(last: &[i64], base: &[i64], object: u32) -> bool
-    ensures { result ≡ int_eq (values_of last.now object) (values_of base.now object) }
-{
-    item_or(last, object as usize, 0) == item_or(base, object as usize, 0)
+    names.iter().all(|x| item_or(last, *x as usize, 0) == item_or(base, *x as usize, 0))
 }
