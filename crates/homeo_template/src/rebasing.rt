@@ -26,7 +26,12 @@ fn gain(object: u32, from: &[i64], to: &[i64]) -> i128
 fn gained_by(term: &Term, from: &[i64], to: &[i64]) -> Option<i128>
     ensures { IfSome result (λ n. n ≡ term.now.factor *ℤ gains (values_of from.now) (values_of to.now) term.now.delta.object) }
 {
-    term.factor.checked_mul(gain(term.delta.object, from, to))
+    let gain = gain(term.delta.object, from, to);
+    if gain == 0 {
+        // as most do
+        return Some(0);
+    }
+    term.factor.checked_mul(gain)
 }
 
 /// The sum of factor times what its object gained; none where it is out of the range of i128 on the way.
