@@ -6,15 +6,14 @@ use Rattle.std.specs.List.{list_any}
 use Rattle.std.specs.Ordering.{int_eq}
 use Rattle.std.proofs.lemmas.Int.{ints}
 use Rattle.std.proofs.lemmas.List.{map-append}
-use Rattle.std.proofs.lemmas.Bool.{and_parts}
 use Rattle.homeo_meaning.specs.Whole.{IsWhole}
 use Rattle.homeo_plan.specs.Each.{Each}
 use Rattle.homeo_plan.specs.declared.forms.Delta.{Delta}
 use Rattle.homeo_plan.specs.declared.forms.Term.{Term}
-use Rattle.homeo_plan.specs.Linear.{same_delta, Linear, is_empty}
+use Rattle.homeo_plan.specs.Linear.{Linear, is_empty}
 use Rattle.homeo_plan.specs.Needs.{remote}
-use Rattle.homeo_plan.specs.Template.{PlannedCall, needs_of, Clause, clause_of, same_term, same_terms, same_clause, with_clause, clauses_from, put_all, Template, template}
-use Rattle.homeo_plan.proofs.Factors.{same_delta_is}
+use Rattle.homeo_plan.specs.Template.{PlannedCall, needs_of, Clause, clause_of, same_terms, same_clause, with_clause, clauses_from, put_all, Template, template}
+use Rattle.homeo_plan.proofs.Covering.{same_terms_is}
 use Rattle.homeo_follow.specs.Brought.{Brought, brought}
 use Rattle.homeo_follow.specs.Expanded.{terms_from, expanded_terms, expanded_deltas, expanded}
 use Rattle.homeo_follow.specs.Follow.{followed}
@@ -25,21 +24,6 @@ use Rattle.homeo_follow.proofs.Needed.{needs_are_followed}
 
 module _ (g : ℕ → ℤ) where
   -- ---- clauses
-  terms_are : (ts us : List Term) → same_terms ts us ≡ true → ts ≡ us
-  unfolding plan_definitions
-  terms_are [] [] e = refl
-  terms_are [] (u ∷ us) e = cc
-  terms_are (t ∷ ts) [] e = cc
-  terms_are (t ∷ ts) (u ∷ us) e =
-      let parts = and_parts (same_term t u) (same_terms ts us) e in
-      ap₂ ◌∷◌ (term_is t u parts.0) (terms_are ts us parts.1)
-    where
-      term_is : (a c : Term) → same_term a c ≡ true → a ≡ c
-      term_is a c h =
-          let parts = and_parts (same_delta a.delta c.delta) (int_eq a.factor c.factor) h in
-          let factors : a.factor ≡ c.factor = grind (arith, ints, parts.1) in
-          ap₂ (λ d f. record { delta = d; factor = f }) (same_delta_is a.delta c.delta parts.0) factors
-
   -- the same is taken from both slacks
   slacks_alike : (m n p q : ℤ) → p ≡ q → int_eq (neg_ℤ (m +ℤ p)) (n +ℤ neg_ℤ q) ≡ int_eq (neg_ℤ m) n
   slacks_alike m n p q e = grind (arith, ints, e)
@@ -51,7 +35,7 @@ module _ (g : ℕ → ℤ) where
       go :
           (u : Bool) → same_terms a.terms c.terms ≡ u →
           (u && int_eq (neg_ℤ (a.constant +ℤ gained g a.terms)) (c.slack +ℤ neg_ℤ (gained g c.terms))) ≡ (u && int_eq (neg_ℤ a.constant) c.slack)
-      go true e = slacks_alike a.constant c.slack (gained g a.terms) (gained g c.terms) (ap (gained g) (terms_are a.terms c.terms e))
+      go true e = slacks_alike a.constant c.slack (gained g a.terms) (gained g c.terms) (ap (gained g) (same_terms_is a.terms c.terms e))
       go false e = refl
 
   found_rebased : (a : Linear) (cs : List Clause) →
