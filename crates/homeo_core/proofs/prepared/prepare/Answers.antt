@@ -51,3 +51,7 @@ returns c =
     let waiting : map waits c.in_ok-starts_after.field-0.items ≡ replicate (sites_of (plain_workload w)) true = c.in_ok-starts_after.ensures.waiting in
     let segments : map plain_segment c.in_ok-empty_segments.field-0.items ≡ replicate (sites_of (plain_workload w)) [] = c.in_ok-empty_segments.ensures ∙ ap (λ v. replicate (sites_of (plain_workload v)) []) third in
     (λ i. record { work = work i; round = round i; base = base i; closing = closing i; next = next i; segments = segments i; waiting = waiting i })
+
+pub plan_after-requires-clause-last : goal.plan_after-requires-clause-last
+plan_after-requires-clause-last c =
+    subst (λ (v : Workload). IsObjectPlan (plain_workload v) c.args.last.now.base.items c.args.last.now) (sym c.deref-2.ensures) c.requires.last
