@@ -18,7 +18,7 @@ use Rattle.homeo_lform.proofs.NamedWithin.{named_law}
 use Rattle.homeo_lform.proofs.ObjectBounds.{bounds_count}
 use Rattle.homeo_plan.specs.Each.{Each}
 use Rattle.homeo_plan.specs.declared.forms.Delta.{Delta}
-use Rattle.homeo_plan.specs.Linear.{AreInOrder, delta_before, Linear, add_deltas}
+use Rattle.homeo_plan.specs.Linear.{AreInOrder, delta_before, Linear}
 use Rattle.homeo_plan.specs.Planned.{sites_of, planned_call, planned, template_at}
 use Rattle.homeo_plan.specs.PlanView.{plain_clause}
 use Rattle.homeo_plan.specs.declared.round.RoundPlan.{RoundPlan}

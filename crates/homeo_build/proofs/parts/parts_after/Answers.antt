@@ -10,19 +10,29 @@ pub bounds-names-i : goal.bounds-names-i
 bounds-names-i c =
     let w = plain_workload c.args.c.now in
     let fs = c.as_slice-form-items.result.now in
-    let forms = forms_lent w c.forms-forms.result.now.forms.items fs c.forms-forms.result.now.places.items c.as_slice-form-items.ensures c.forms-forms.ensures.forms in
-    let parts = parts_lent w c.args.last.now.base.items fs c.forms-forms.result.now.places.items c.args.last.now.parts.items c.as_slice-kept.result.now forms c.as_slice-kept.ensures c.requires.last.parts in
-    let names = names_lent c.forms-forms.result.now.forms.items fs c.forms-forms.result.now.names.items c.as_slice-names.result.now c.as_slice-form-items.ensures c.as_slice-names.ensures.value c.forms-forms.ensures.names in
-    names_within (values_of c.args.last.now.base.items) fs c.as_slice-kept.result.now c.as_slice-names.result.now c.loop-i.i parts names c.loop-i-test.true
+    let made = c.forms-forms.result.now in
+    let forms = forms_lent w made.forms.items fs made.places.items c.as_slice-form-items.ensures c.forms-forms.ensures.forms in
+    let last = c.args.last.now in
+    let kept = c.as_slice-kept.result.now in
+    let parts = parts_lent w last.base.items fs made.places.items last.parts.items kept forms c.as_slice-kept.ensures c.requires.last.parts in
+    let lent = c.as_slice-names.result.now in
+    let names =
+    names_lent made.forms.items fs made.names.items lent c.as_slice-form-items.ensures c.as_slice-names.ensures.value c.forms-forms.ensures.names in
+    names_within (values_of last.base.items) fs kept lent c.loop-i.i parts names c.loop-i-test.true
 
 pub bounds-kept-i : goal.bounds-kept-i
 bounds-kept-i c =
     let w = plain_workload c.args.c.now in
     let fs = c.as_slice-form-items.result.now in
-    let forms = forms_lent w c.forms-forms.result.now.forms.items fs c.forms-forms.result.now.places.items c.as_slice-form-items.ensures c.forms-forms.ensures.forms in
-    let parts = parts_lent w c.args.last.now.base.items fs c.forms-forms.result.now.places.items c.args.last.now.parts.items c.as_slice-kept.result.now forms c.as_slice-kept.ensures c.requires.last.parts in
-    let names = names_lent c.forms-forms.result.now.forms.items fs c.forms-forms.result.now.names.items c.as_slice-names.result.now c.as_slice-form-items.ensures c.as_slice-names.ensures.value c.forms-forms.ensures.names in
-    part_within (values_of c.args.last.now.base.items) fs c.as_slice-kept.result.now c.as_slice-names.result.now c.loop-i.i parts names c.loop-i-test.true
+    let made = c.forms-forms.result.now in
+    let forms = forms_lent w made.forms.items fs made.places.items c.as_slice-form-items.ensures c.forms-forms.ensures.forms in
+    let last = c.args.last.now in
+    let kept = c.as_slice-kept.result.now in
+    let parts = parts_lent w last.base.items fs made.places.items last.parts.items kept forms c.as_slice-kept.ensures c.requires.last.parts in
+    let lent = c.as_slice-names.result.now in
+    let names =
+    names_lent made.forms.items fs made.names.items lent c.as_slice-form-items.ensures c.as_slice-names.ensures.value c.forms-forms.ensures.names in
+    part_within (values_of last.base.items) fs kept lent c.loop-i.i parts names c.loop-i-test.true
 
 pub offset_bounds-names-i : goal.offset_bounds-names-i
 offset_bounds-names-i c =
@@ -34,15 +44,24 @@ pub part_after-requires : goal.part_after-requires
 part_after-requires c =
     let w = plain_workload c.args.c.now in
     let fs = c.as_slice-form-items.result.now in
-    let forms = forms_lent w c.forms-forms.result.now.forms.items fs c.forms-forms.result.now.places.items c.as_slice-form-items.ensures c.forms-forms.ensures.forms in
-    let parts = parts_lent w c.args.last.now.base.items fs c.forms-forms.result.now.places.items c.args.last.now.parts.items c.as_slice-kept.result.now forms c.as_slice-kept.ensures c.requires.last.parts in
-    let names = names_lent c.forms-forms.result.now.forms.items fs c.forms-forms.result.now.names.items c.as_slice-names.result.now c.as_slice-form-items.ensures c.as_slice-names.ensures.value c.forms-forms.ensures.names in
+    let made = c.forms-forms.result.now in
+    let forms = forms_lent w made.forms.items fs made.places.items c.as_slice-form-items.ensures c.forms-forms.ensures.forms in
+    let last = c.args.last.now in
+    let kept = c.as_slice-kept.result.now in
+    let parts = parts_lent w last.base.items fs made.places.items last.parts.items kept forms c.as_slice-kept.ensures c.requires.last.parts in
+    let lent = c.as_slice-names.result.now in
+    let names =
+    names_lent made.forms.items fs made.names.items lent c.as_slice-form-items.ensures c.as_slice-names.ensures.value c.forms-forms.ensures.names in
     record {
       names =
           c.as_slice.ensures.value
-          ∙ names_of (values_of c.args.last.now.base.items) fs c.as_slice-kept.result.now c.as_slice-names.result.now c.loop-i.i parts names c.loop-i-test.true c.form-item.result c.index-names-i.result c.form-item.is c.index-names-i.is;
-      kept = part_of (values_of c.args.last.now.base.items) fs c.as_slice-kept.result.now c.as_slice-names.result.now c.loop-i.i parts names c.loop-i-test.true c.form-item.result c.index-kept-i.result c.form-item.is c.index-kept-i.is;
-      form = small_at w c.args.base.now.items c.requires.accepted c.requires.within fs c.loop-i.i c.form-item.result forms.made c.loop-i-test.true c.form-item.is;
+          ∙ names_of (values_of last.base.items) fs kept lent c.loop-i.i parts names c.loop-i-test.true
+          c.form-item.result c.index-names-i.result c.form-item.is c.index-names-i.is;
+      kept =
+          part_of (values_of last.base.items) fs kept lent c.loop-i.i parts names c.loop-i-test.true c.form-item.result c.index-kept-i.result c.form-item.is c.index-kept-i.is;
+      form =
+          small_at w c.args.base.now.items c.requires.accepted c.requires.within fs c.loop-i.i c.form-item.result forms.made
+          c.loop-i-test.true c.form-item.is;
       base = small_base w c.args.base.now.items c.requires.accepted c.requires.within;
     }
 
@@ -56,6 +75,7 @@ pub returns : goal.returns
 returns c =
     let w = plain_workload c.args.c.now in
     let fs = c.as_slice-form-items.result.now in
-    let forms = forms_lent w c.forms-forms.result.now.forms.items fs c.forms-forms.result.now.places.items c.as_slice-form-items.ensures c.forms-forms.ensures.forms in
-    parts_all w c.args.base.now.items fs c.forms-forms.result.now.places.items c.loop-i.parts.items c.loop-i.i forms
+    let made = c.forms-forms.result.now in
+    let forms = forms_lent w made.forms.items fs made.places.items c.as_slice-form-items.ensures c.forms-forms.ensures.forms in
+    parts_all w c.args.base.now.items fs made.places.items c.loop-i.parts.items c.loop-i.i forms
     c.loop-i-test.false c.loop-i.invariant

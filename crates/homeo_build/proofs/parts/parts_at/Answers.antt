@@ -10,7 +10,8 @@ pub part_at-requires-clause-form : goal.part_at-requires-clause-form
 part_at-requires-clause-form c =
     let w = plain_workload c.args.c.now in
     let fs = c.as_slice-form-items.result.now in
-    let forms = forms_lent w c.forms.result.now.forms.items fs c.forms.result.now.places.items c.as_slice-form-items.ensures c.forms.ensures.forms in
+    let made = c.forms.result.now in
+    let forms = forms_lent w made.forms.items fs made.places.items c.as_slice-form-items.ensures c.forms.ensures.forms in
     small_at w c.args.base.now.items c.requires.accepted c.requires.within fs c.loop-form.form-index c.form-item.result forms.made
     c.loop-form-test.true c.form-item.is
 
@@ -27,6 +28,7 @@ pub returns : goal.returns
 returns c =
     let w = plain_workload c.args.c.now in
     let fs = c.as_slice-form-items.result.now in
-    let forms = forms_lent w c.forms.result.now.forms.items fs c.forms.result.now.places.items c.as_slice-form-items.ensures c.forms.ensures.forms in
-    parts_all w c.args.base.now.items fs c.forms.result.now.places.items c.loop-form.parts.items c.loop-form.form-index forms
+    let made = c.forms.result.now in
+    let forms = forms_lent w made.forms.items fs made.places.items c.as_slice-form-items.ensures c.forms.ensures.forms in
+    parts_all w c.args.base.now.items fs made.places.items c.loop-form.parts.items c.loop-form.form-index forms
     c.loop-form-test.false c.loop-form.invariant

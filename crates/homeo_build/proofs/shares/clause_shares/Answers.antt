@@ -1,4 +1,4 @@
-use Rattle.std.proofs.Common.{◌≡◌, map, replicate, ℤ, pos, ap, sym, subst, ◌∙◌, arith}
+use Rattle.std.proofs.Common.{◌≡◌, map, ℤ, pos, ap, subst, ◌∙◌, arith}
 use Rattle.std.specs.List.{range_with_len}
 use Rattle.std.proofs.lemmas.Result.{IfOk-weaker}
 use Rattle.homeo_meaning.specs.Acceptance.{IsAccepted}
