@@ -1,7 +1,7 @@
 //! What the calls of a small workload come to.
 
-use crate::example::example;
 use crate::same::{same, same_items};
+use crate::stock::stock;
 use homeo_eval::{initial, serial};
 use homeo_meaning::{CallId, GroundCall};
 use homeo_syntax::List;
@@ -10,7 +10,7 @@ use homeo_syntax::List;
 #[test]
 fn calls_are_run_one_after_another(rt: HostRuntime) {
     let alloc = rt.alloc();
-    let w = example(&rt, alloc);
+    let w = stock(&rt, alloc);
     let mut database = initial(alloc, &w).expect(&rt, "memory");
     let calls = [CallId { client: 0, seq: 1 }, CallId { client: 0, seq: 2 }];
     let logs = serial(alloc, &w, &calls, &mut database).expect(&rt, "memory");

@@ -1,26 +1,15 @@
 //! Plans of later rounds, and what goes from one base to another.
 
-use crate::example::example;
+use crate::residual::clause;
 use crate::same::same;
+use crate::stock::stock;
 use homeo_build::compile::compile;
 use homeo_build::treaties::{plan_after, plan_at};
 use homeo_eval::{initial, serial};
 use homeo_follow::ObjectPlan;
 use homeo_meaning::CallId;
 use homeo_plan::{Clause, Delta, Term};
-use homeo_syntax::List;
 use homeo_template::rebased_clauses;
-use std::alloc::Global;
-use std::process::Abort;
-
-fn clause(rt: &impl Abort, alloc: Global, factor: i128, slack: i128) -> Clause {
-    let delta = Delta { object: 0, site: 0 };
-    let terms = vec![in alloc; Term { delta, factor }].expect(rt, "memory");
-    Clause {
-        terms: List::from_vec(terms),
-        slack,
-    }
-}
 
 /// The factor times what the first object gains is at most the slack.
 fn is_clause(clause: &Clause, factor: i128, slack: i128) -> bool {
@@ -62,7 +51,7 @@ fn one_slack(plan: &ObjectPlan) -> Option<i128> {
 #[test]
 fn later_plans_are_made_from_those_before(rt: HostRuntime) {
     let alloc = rt.alloc();
-    let w = example(&rt, alloc);
+    let w = stock(&rt, alloc);
     let first = initial(alloc, &w).expect(&rt, "memory");
     let mut sold = initial(alloc, &w).expect(&rt, "memory");
     let sales = [CallId { client: 0, seq: 1 }, CallId { client: 0, seq: 2 }];

@@ -10,8 +10,6 @@ mod effects;
 #[cfg(test)]
 mod evaluation;
 #[cfg(test)]
-mod example;
-#[cfg(test)]
 mod formulas;
 #[cfg(test)]
 mod joint_tables;
@@ -39,6 +37,8 @@ mod sizes;
 mod slacks;
 #[cfg(test)]
 mod splits;
+#[cfg(test)]
+mod stock;
 #[cfg(test)]
 mod tables;
 #[cfg(test)]

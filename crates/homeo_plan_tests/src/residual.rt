@@ -54,7 +54,8 @@ pub(crate) fn residual(rt: &impl Abort, alloc: Global) -> Residual
     Residual { site: 0, commands }
 }
 
-fn clause(rt: &impl Abort, alloc: Global, factor: i128, slack: i128) -> Clause {
+/// A clause on the delta of the first object at site 0.
+pub(crate) fn clause(rt: &impl Abort, alloc: Global, factor: i128, slack: i128) -> Clause {
     let delta = Delta { object: 0, site: 0 };
     let terms = vec![in alloc; Term { delta, factor }].expect(rt, "memory");
     Clause {

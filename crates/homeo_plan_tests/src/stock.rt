@@ -145,7 +145,7 @@ fn workload(rt: &impl Abort, alloc: Global) -> Workload
 }
 
 /// The workload: a stock from 0 to 10, of which there are 5, and two sales of 3.
-pub(crate) fn example(rt: &impl Abort, alloc: Global) -> Accepted
+pub(crate) fn stock(rt: &impl Abort, alloc: Global) -> Accepted
     ensures { plain_workload result ≡ example }
 {
     let workload = workload(rt, alloc);
