@@ -1,16 +1,23 @@
-use Rattle.std.proofs.Common.{◌≡◌, true, [], ◌∷◌, ◌++◌, Some, length, map, take, replicate, sym, ap, subst, ◌∙◌}
+use Rattle.std.proofs.Common.{◌≡◌, true, [], ◌<◌, List, ◌∷◌, ◌++◌, Some, length, map, get_or, take, replicate, sym, ap, subst, ◌∙◌, arith}
 use Rattle.std.proofs.lemmas.List.{length-map, map-append}
 use Rattle.homeo_syntax.specs.Listed.{Listed}
+use Rattle.homeo_syntax.specs.Source as s
 use Rattle.homeo_syntax.specs.SourceView.{plain_workload}
+use Rattle.homeo_syntax.specs.declared.workload.Workload.{Workload}
+use Rattle.homeo_meaning.specs.Acceptance.{IsAccepted}
 use Rattle.homeo_meaning.specs.Bounds.{IsWithin}
 use Rattle.homeo_meaning.specs.Schema.{schema_of}
 use Rattle.homeo_meaning.specs.Serial.{call_outcome}
 use Rattle.homeo_plan.specs.Planned.{sites_of}
+use Rattle.homeo_plan.proofs.Policy.{some_sites}
+use Rattle.homeo_follow.specs.declared.plan.ObjectPlan.{ObjectPlan}
+use Rattle.homeo_build.specs.Plan.{IsObjectPlan}
 use Rattle.homeo_history.specs.Answers.{closing_answer}
 use Rattle.homeo_history.specs.Follows.{site_or_zero}
 use Rattle.homeo_history.specs.HistoryView.{plain_round}
 use Rattle.homeo_history.specs.declared.history.Round.{Round}
 use Rattle.homeo_site.specs.SiteState.{renewed}
+use Rattle.homeo_site.specs.SiteView.{SiteValue}
 use Rattle.homeo_round.specs.GatherView.{GatherValue}
 use Rattle.homeo_core.specs.Key.{definitions}
 use Rattle.homeo_core.specs.CoreView.{start_of}
@@ -45,6 +52,28 @@ gather_all-requires-clause-fits c n =
     let b : BookState = book_of c.args.closed.now.items c.args.base.now.items in
     all_fit w (gathered c.args.base.now.items (take n (states c.args.sites.now))) c.requires.accepted
     (first_within w (start_of b) b (states c.args.sites.now) c.requires.accepted c.requires.joined n)
+
+-- there is a first site, and its plan is one of the workload
+first_inside : (w : s.Workload) (sites : List SiteValue) → IsAccepted w → length (states sites) ≡ sites_of w → 0 < length sites
+first_inside w sites accepted counted =
+    omega (arith, some_sites w accepted, counted, states_count sites)
+
+pub bounds-sites-0 : goal.bounds-sites-0
+unfolding definitions
+bounds-sites-0 c = first_inside (plain_workload c.args.c.now.value) c.args.sites.now c.requires.accepted c.requires.joined.round.count
+
+pub prepare-requires-clause-last : goal.prepare-requires-clause-last
+unfolding definitions
+prepare-requires-clause-last c =
+    let w = plain_workload c.args.c.now.value in
+    let d : SiteValue = c.index-sites-0.result in
+    let x : SiteValue = get_or c.args.sites.now 0 d in
+    let p : ObjectPlan = c.plan-last.result.now in
+    let lt : 0 < length c.args.sites.now = first_inside w c.args.sites.now c.requires.accepted c.requires.joined.round.count in
+    let work : x.work ≡ c.args.c.now.value = c.requires.of 0 d lt in
+    let own : IsObjectPlan (plain_workload x.work) p.base.items p =
+    subst (λ b. IsObjectPlan (plain_workload x.work) b p) (sym c.plan-last.ensures.base) c.plan-last.ensures in
+    subst (λ (v : Workload). IsObjectPlan (plain_workload v) p.base.items p) work own
 
 pub prepare-requires-clause-sites : goal.prepare-requires-clause-sites
 unfolding definitions
