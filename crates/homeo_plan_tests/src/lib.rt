@@ -14,8 +14,6 @@ mod formulas;
 #[cfg(test)]
 mod joint_tables;
 #[cfg(test)]
-mod later_plans;
-#[cfg(test)]
 mod needs;
 #[cfg(test)]
 mod numbering;
@@ -37,8 +35,6 @@ mod sizes;
 mod slacks;
 #[cfg(test)]
 mod splits;
-#[cfg(test)]
-mod stock;
 #[cfg(test)]
 mod tables;
 #[cfg(test)]

@@ -6,10 +6,11 @@ ghost use Rattle.homeo_meaning.specs.Small.{IsSmall};
 ghost use Rattle.homeo_plan.specs.Limit.{form_limit};
 ghost use Rattle.homeo_plan_tests.specs.inner.AtomExample.{AreSmall};
 
+use crate::residual::clause;
 use crate::same::{same, same_items};
 use homeo_plan::{Atom, AtomSet, Clause, Delta, FreezeSet, Linear, Term};
 use homeo_syntax::List;
-use homeo_template::template;
+use homeo_template::{rebased_clauses, template};
 use std::alloc::Global;
 use std::process::Abort;
 
@@ -100,4 +101,22 @@ fn equal_atoms_are_one_clause_and_freezes_stand_in_order(rt: HostRuntime) {
         [delta(0, 1), delta(0, 2), delta(1, 0), delta(1, 1)].as_slice(),
     );
     drop(template);
+}
+
+// The object goes from 5 to 4: one less may be taken, and one more added.
+#[test]
+fn slacks_go_by_what_the_object_gained(rt: HostRuntime) {
+    let alloc = rt.alloc();
+    let clauses = [clause(&rt, alloc, -1, 2), clause(&rt, alloc, 1, 8)];
+    let made = rebased_clauses(alloc, &clauses, &[5], &[4]).expect(&rt, "memory");
+    drop(clauses);
+    let made = made.unwrap_or(List::new(alloc));
+    match made.as_slice() {
+        [taken, added] => {
+            assert!(rt; is_clause(taken, &[term(0, 0, -1)], 1));
+            assert!(rt; is_clause(added, &[term(0, 0, 1)], 9));
+        }
+        _ => panic!(rt; "two clauses"),
+    }
+    drop(made);
 }

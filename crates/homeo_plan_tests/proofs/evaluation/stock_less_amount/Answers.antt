@@ -8,7 +8,7 @@ use Rattle.homeo_syntax.specs.declared.phrase.Expr.{Read, Neg}
 use Rattle.homeo_syntax.proofs.SourceViews.{plain_Name, plain_Read, plain_Sum, plain_Neg}
 use Rattle.homeo_plan_tests.specs.inner.Example.{name}
 use Rattle.homeo_plan_tests.proofs.Example.{pushed}
-use Rattle.homeo_plan_tests.proofs.stock.stock_less_amount.Goals as goal
+use Rattle.homeo_plan_tests.proofs.evaluation.stock_less_amount.Goals as goal
 
 pub returns : goal.returns
 unfolding syntax_definitions

@@ -4,7 +4,7 @@ use Rattle.std.proofs.lemmas.Result.{IfOk-at_ok}
 use Rattle.homeo_syntax.specs.Key.{definitions as syntax_definitions}
 use Rattle.homeo_plan_tests.specs.inner.Example.{name, number}
 use Rattle.homeo_plan_tests.proofs.Example.{pushed}
-use Rattle.homeo_plan_tests.proofs.stock.sale_of_3.Goals as goal
+use Rattle.homeo_plan_tests.proofs.evaluation.sale_of_3.Goals as goal
 
 pub returns : goal.returns
 unfolding syntax_definitions

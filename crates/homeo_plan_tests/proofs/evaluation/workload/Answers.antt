@@ -5,7 +5,7 @@ use Rattle.homeo_syntax.specs.Key.{definitions as syntax_definitions}
 use Rattle.homeo_syntax.specs.SourceView.{plain_relation, plain_transaction, plain_client}
 use Rattle.homeo_plan_tests.specs.inner.Example.{number}
 use Rattle.homeo_plan_tests.proofs.Example.{pushed}
-use Rattle.homeo_plan_tests.proofs.stock.workload.Goals as goal
+use Rattle.homeo_plan_tests.proofs.evaluation.workload.Goals as goal
 
 pub returns : goal.returns
 unfolding syntax_definitions

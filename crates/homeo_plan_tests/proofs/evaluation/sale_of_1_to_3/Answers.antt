@@ -9,7 +9,7 @@ use Rattle.homeo_syntax.specs.declared.command.Command.{Write, Print}
 use Rattle.homeo_syntax.proofs.SourceViews.{plain_Read, plain_Write, plain_Print}
 use Rattle.homeo_plan_tests.specs.inner.Example.{name}
 use Rattle.homeo_plan_tests.proofs.Example.{pushed}
-use Rattle.homeo_plan_tests.proofs.stock.sale_of_1_to_3.Goals as goal
+use Rattle.homeo_plan_tests.proofs.evaluation.sale_of_1_to_3.Goals as goal
 
 pub returns : goal.returns
 unfolding syntax_definitions
