@@ -53,8 +53,8 @@ module _ (w : s.Workload) (fs : List Command) (places : List ℕ) (forms : AreFo
   unfolding plan_definitions follow_definitions
   template_rebased part old new before after moved t cs is rebased_is =
       let forms_same : map (brought (values_of d)) fs ≡ map (λ c. rebased gain (brought (values_of b) c)) fs =
-        subst (λ l. map (brought (values_of d)) l ≡ map (λ c. rebased gain (brought (values_of b) c)) l) (sym forms.are)
-        (sym after ∙ moved ∙ ap (map (rebased gain)) before ∙ map_map (brought (values_of b)) (rebased gain) (call_forms w)) in
+      subst (λ l. map (brought (values_of d)) l ≡ map (λ c. rebased gain (brought (values_of b) c)) l) (sym forms.are)
+      (sym after ∙ moved ∙ ap (map (rebased gain)) before ∙ map_map (brought (values_of b)) (rebased gain) (call_forms w)) in
       ap (λ (l : List Clause). let u : Template = record { clauses = l; freezes = t.freezes } in expanded_template (sites_of w) u) rebased_is
       ∙ templates_stay (sites_of w) (values_of b) (values_of d) gain (sites_few w accepted).some (planned w) (are_planned w accepted)
       (calls_stay forms_same (grounds w) places forms.placed) t.clauses t.freezes is

@@ -131,5 +131,9 @@ pub(crate) fn forms_of(
     }
     let Bodies { bodies: _, forms } = bodies;
     let names = names_of(alloc, forms.as_slice())?;
-    Ok(Forms { forms, places, names })
+    Ok(Forms {
+        forms,
+        places,
+        names,
+    })
 }

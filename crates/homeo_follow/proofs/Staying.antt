@@ -204,8 +204,8 @@ module _ (b d : ℕ → ℤ) where
   stays c w =
       let s = follow_same c w (object_forms b) (object_forms d) alike_at_bases in
       let gains : write_needs b (followed b c).forms (followed b c).written ≡ write_needs d (followed d c).forms (followed d c).written =
-        gains_same (followed b c).forms (followed d c).forms s.forms (followed b c).written s.agree
-        ∙ ap (write_needs d (followed d c).forms) s.written in
+      gains_same (followed b c).forms (followed d c).forms s.forms (followed b c).written s.agree
+      ∙ ap (write_needs d (followed d c).forms) s.written in
       ap₂ (λ atoms needs. record { atoms = atoms; needs = needs }) s.atoms (ap₂ print_needs s.prints gains)
 
 pub parts_stay : (b d : ℕ → ℤ) (c : Command) → Each (λ x. b x ≡ d x) (named c) → brought b c ≡ brought d c

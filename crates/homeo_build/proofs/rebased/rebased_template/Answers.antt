@@ -27,15 +27,15 @@ returns-clause-template c =
     let fs = map plain_lcommand c.forms-forms.result.now.forms.items in
     let t : Template = plain_template last.template in
     let moved : map shared_part c.args.parts.now ≡ map (rebased g) (map shared_part last.parts.items) =
-      c.are_rebased.ensures c.if-not-are_rebased.false
-      ∙ (λ i. map (rebased (gains (values_of (from i)) (values_of (to i)))) (map shared_part (c.as_slice.ensures i))) in
+    c.are_rebased.ensures c.if-not-are_rebased.false
+    ∙ (λ i. map (rebased (gains (values_of (from i)) (values_of (to i)))) (map shared_part (c.as_slice.ensures i))) in
     let found =
-      subst (λ o. IfSome o (λ (cs : Listed code.Clause). map plain_clause cs.items ≡
-        map (rebased_clause (gains (values_of c.as_slice-from.result.now) (values_of c.as_slice-to.result.now))) (map plain_clause c.as_slice-2.result.now)))
-      c.in-Some.is c.in_ok-clauses.ensures in
+    subst (λ o. IfSome o (λ (cs : Listed code.Clause). map plain_clause cs.items ≡
+    map (rebased_clause (gains (values_of c.as_slice-from.result.now) (values_of c.as_slice-to.result.now))) (map plain_clause c.as_slice-2.result.now)))
+    c.in-Some.is c.in_ok-clauses.ensures in
     let clauses : map plain_clause c.in-Some.clauses.items ≡ map (rebased_clause g) t.clauses =
-      found
-      ∙ (λ i. map (rebased_clause (gains (values_of (from i)) (values_of (to i)))) (map plain_clause (c.as_slice-2.ensures i))) in
+    found
+    ∙ (λ i. map (rebased_clause (gains (values_of (from i)) (values_of (to i)))) (map plain_clause (c.as_slice-2.ensures i))) in
     let freezes : c.from_vec.result.items ≡ t.freezes = ap (λ l. l.items) c.from_vec.ensures ∙ c.in_ok-freezes.ensures.items ∙ c.as_slice-3.ensures in
     ap (λ ds. let u : Template = record { clauses = map plain_clause c.in-Some.clauses.items; freezes = ds } in expanded_template c.args.sites u) freezes
     ∙ ap (λ k. let u : Template = record { clauses = map plain_clause c.in-Some.clauses.items; freezes = t.freezes } in expanded_template k u) c.requires.sites

@@ -25,8 +25,8 @@ returns c =
     let b = values_of c.args.base.now.items in
     let q : Followed = followed_so c.follow.new.course in
     let whole : q ≡ followed b (plain_lcommand c.args.command.now) =
-      followed_whole (followed_so c.new-course.result) q c.as_slice.result.now c.args.base.now.items
-      (plain_lcommand c.args.command.now) c.new-course.ensures c.as_slice.ensures c.in_ok-follow.ensures in
+    followed_whole (followed_so c.new-course.result) q c.as_slice.result.now c.args.base.now.items
+    (plain_lcommand c.args.command.now) c.new-course.ensures c.as_slice.ensures c.in_ok-follow.ensures in
     ap₂ (λ atoms needs. record { atoms = atoms; needs = needs })
     (ap (λ v. map plain_atom v.items) c.from_vec.ensures ∙ ap (λ (r : Followed). r.atoms) whole)
     (ap (λ v. v.items) c.from_vec-2.ensures ∙ c.in_ok-needed.ensures ∙ ap (λ l. needed (values_of l) q) c.as_slice-2.ensures ∙ ap (needed b) whole)
