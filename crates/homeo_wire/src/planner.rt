@@ -1,12 +1,13 @@
 //! The starts of sites in the rounds that they go on to.
 
-ghost use Rattle.std.specs.Prelude.{◌≡◌, ◌<◌, IfOk};
+ghost use Rattle.std.specs.Prelude.{◌≡◌, ◌<◌, IfOk, IfSome};
 ghost use Rattle.homeo_syntax.specs.SourceView.{plain_workload};
 ghost use Rattle.homeo_meaning.specs.Bounds.{IsWithin};
 ghost use Rattle.homeo_meaning.specs.Schema.{schema_of};
 ghost use Rattle.homeo_plan.specs.Planned.{sites_of, policy};
 ghost use Rattle.homeo_follow.specs.ObjectPlan.{config_in};
 ghost use Rattle.homeo_build.specs.Plan.{IsObjectPlan};
+ghost use Rattle.homeo_wire.specs.inner.Planning.{IsPlan};
 
 use homeo_build::Compiled;
 use homeo_build::treaties::{plan_after, plan_at};
@@ -60,18 +61,6 @@ impl Planner {
         &self.compiled
     }
 
-    /// The plan of a round that begins at a base, made from the one made last, if there is one.
-    fn plan(&self, alloc: Global, base: &Database) -> Result<Arc<ObjectPlan>, Memory>
-        requires { IsWithin (schema_of (plain_workload self.now)) base.now.items }
-        ensures plan { IfOk result (λ p. IsObjectPlan (plain_workload self.now) base.now.items p.value) }
-        ensures policy { IfOk result (λ p. config_in p.value ≡ policy (plain_workload self.now) base.now.items) }
-    {
-        match &self.last {
-            Some(last) => plan_after(alloc, &self.compiled, last, base),
-            None => plan_at(alloc, &self.compiled, base),
-        }
-    }
-
     /// The start of a site in the round of this number, which begins at a base within the workload's bounds. Where the plan
     /// made last is of another base, one is made from it.
     ///
@@ -95,9 +84,27 @@ impl Planner {
                 return SiteStart::new(alloc, &self.compiled, plan, site, round);
             }
         }
-        let plan = self.plan(alloc, base)?;
+        let plan = plan_from(alloc, &self.compiled, &self.last, base)?;
         let start = SiteStart::new(alloc, &self.compiled, &plan, site, round)?;
         self.last = Some(plan);
         Ok(start)
+    }
+}
+
+/// The plan of a round that begins at a base, made from the one made last, if there is one.
+fn plan_from(
+    alloc: Global,
+    c: &Compiled,
+    last: &Option<Arc<ObjectPlan>>,
+    base: &Database,
+) -> Result<Arc<ObjectPlan>, Memory>
+    requires last { IfSome last.now (λ plan. IsPlan (plain_workload c.now) plan.value) }
+    requires within { IsWithin (schema_of (plain_workload c.now)) base.now.items }
+    ensures plan { IfOk result (λ p. IsObjectPlan (plain_workload c.now) base.now.items p.value) }
+    ensures policy { IfOk result (λ p. config_in p.value ≡ policy (plain_workload c.now) base.now.items) }
+{
+    match last {
+        Some(last) => plan_after(alloc, c, last, base),
+        None => plan_at(alloc, c, base),
     }
 }
