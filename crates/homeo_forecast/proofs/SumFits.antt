@@ -5,8 +5,7 @@ use Rattle.std.proofs.lemmas.List.Elements.{All-nil, All-cons, All-head, All-tai
 use Rattle.homeo_plan.specs.declared.forms.Term.{Term}
 use Rattle.homeo_plan.specs.Joined.{Deltas}
 use Rattle.homeo_site.specs.Key.{definitions as site_definitions}
-use Rattle.homeo_site.specs.declared.own_treaty.OwnTerm.{OwnTerm}
-use Rattle.homeo_site.specs.OwnTreaty.{own_terms, own_sum, SumsFit}
+use Rattle.homeo_site.specs.OwnTreaty.{OwnTerm, own_terms, own_sum, SumsFit}
 use Rattle.homeo_forecast.specs.Key.{definitions}
 use Rattle.homeo_forecast.specs.inner.Sums.{terms_at, term_sum, CanSum}
 
