@@ -34,7 +34,7 @@ use Rattle.homeo_follow.specs.Brought.{Brought, brought, plain_part}
 use Rattle.homeo_follow.specs.Expanded.{expanded}
 use Rattle.homeo_follow.specs.Follow.{followed}
 use Rattle.homeo_follow.specs.Named.{named}
-use Rattle.homeo_follow.specs.declared.plan.PlanPart.{PlanPart}
+use Rattle.homeo_follow.specs.declared.part.PlanPart.{PlanPart}
 use Rattle.homeo_follow.proofs.PlannedAtoms.{atoms_are_followed}
 use Rattle.homeo_follow.proofs.Weighed.{accepted_small}
 use Rattle.homeo_build.specs.Key.{definitions}

@@ -15,7 +15,7 @@ use Rattle.homeo_plan.specs.PlanView.{plain_residual, plain_template, plain_conf
 use Rattle.homeo_follow.specs.Brought.{brought, plain_part}
 use Rattle.homeo_follow.specs.ObjectPlan.{template_in}
 use Rattle.homeo_follow.specs.declared.plan.ObjectPlan.{ObjectPlan}
-use Rattle.homeo_follow.specs.declared.plan.PlanPart.{PlanPart}
+use Rattle.homeo_follow.specs.declared.part.PlanPart.{PlanPart}
 use Rattle.homeo_build.specs.Key.{definitions}
 use Rattle.homeo_build.specs.Forms.{call_forms}
 

@@ -8,6 +8,7 @@ pub mod Simulated
 pub mod Standing
 pub mod Staying
 pub mod Templated
+pub mod TermTests
 pub mod Terms
 pub mod Walked
 pub mod Weighed

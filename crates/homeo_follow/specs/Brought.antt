@@ -6,7 +6,7 @@ use Rattle.homeo_plan.specs.Linear.{Linear}
 use Rattle.homeo_plan.specs.PlanView.{plain_atoms}
 use Rattle.homeo_follow.specs.Key.{definitions}
 use Rattle.homeo_follow.specs.Follow.{followed, needed}
-use Rattle.homeo_follow.specs.declared.plan.PlanPart.{PlanPart}
+use Rattle.homeo_follow.specs.declared.part.PlanPart.{PlanPart}
 
 pub record Brought : Type 0 where
   pub atoms : List Linear

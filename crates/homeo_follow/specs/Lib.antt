@@ -5,7 +5,6 @@ pub mod FollowSizes
 pub mod Key
 pub mod Lines
 pub mod Named
-pub mod ObjectPlan
 pub mod ObjectTemplate
 pub mod Rebased
 pub mod Taken

@@ -1,8 +1,8 @@
 //! What a command over whole objects asks and does along the branch that it takes at a base, by objects and not by the deltas of sites;
-//! and the plan of a round by objects, of code the types alone.
+//! and, of code, the type of what it brings to the plan of a round.
 #![tactic(auto)]
 
 pub mod laws;
-mod plan;
+mod part;
 
-pub use plan::{ObjectPlan, PlanPart};
+pub use part::PlanPart;

@@ -13,22 +13,13 @@ use Rattle.homeo_plan.specs.PlanView.{plain_linear}
 use Rattle.homeo_plan.specs.Linear.{Linear, is_empty}
 use Rattle.homeo_plan.specs.Template as template
 use Rattle.homeo_plan.specs.Template.{clause_of, same_terms, same_clause, with_clause}
+use Rattle.homeo_follow.proofs.TermTests.{term_test, same-terms}
 use Rattle.homeo_template.specs.declared.key.Key.{Key}
 use Rattle.homeo_template.specs.inner.Keys.{clause_at}
 
 -- the tests of the code
-abbrev pub term_test : Term → Term → Bool
-term_test a b = ((a.delta.object == b.delta.object) && (a.delta.site == b.delta.site)) && int_eq a.factor b.factor
-
 abbrev pub same_key : Key → Key → Bool
 same_key a b = pointwise term_test a.terms.now b.terms.now && int_eq a.slack b.slack
-
-pub same-terms : (xs ys : List Term) → pointwise term_test xs ys ≡ same_terms xs ys
-unfolding definitions
-same-terms [] [] = refl
-same-terms [] (y ∷ ys) = refl
-same-terms (x ∷ xs) [] = refl
-same-terms (x ∷ xs) (y ∷ ys) = ap (λ b. term_test x y && b) (same-terms xs ys)
 
 same-key : (a b : Key) → same_key a b ≡ same_clause (clause_at a) (clause_at b)
 unfolding definitions

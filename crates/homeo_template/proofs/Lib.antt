@@ -4,5 +4,4 @@ pub mod AtSites
 pub mod Freezing
 pub mod Keys
 pub mod Negation
-pub mod Rebased
 pub mod Slacks

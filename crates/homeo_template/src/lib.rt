@@ -6,10 +6,8 @@ mod expanding;
 mod freezes;
 mod joining;
 mod key;
-mod rebasing;
 mod repeated;
 
 pub use expanding::at_sites;
 pub use joining::template;
-pub use rebasing::{are_rebased, rebased_clauses};
 pub use repeated::object_clauses;

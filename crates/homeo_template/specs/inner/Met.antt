@@ -6,7 +6,7 @@ use Rattle.homeo_plan.specs.Each.{Each}
 use Rattle.homeo_plan.specs.Linear.{Linear, is_empty}
 use Rattle.homeo_plan.specs.PlanView.{plain_atoms}
 use Rattle.homeo_plan.specs.Template.{Clause, clause_of, same_clause}
-use Rattle.homeo_follow.specs.declared.plan.PlanPart.{PlanPart}
+use Rattle.homeo_follow.specs.declared.part.PlanPart.{PlanPart}
 use Rattle.homeo_template.specs.Places.{set_at}
 
 abbrev pub atoms_of_part : {Z : Type 0} → Arc PlanPart Z → List Linear

@@ -10,7 +10,7 @@ use Rattle.homeo_plan.specs.Template.{Clause, clauses_from}
 use Rattle.homeo_follow.specs.Key.{definitions}
 use Rattle.homeo_follow.specs.Brought.{Brought, brought}
 use Rattle.homeo_follow.specs.ObjectTemplate.{expanded_clause}
-use Rattle.homeo_follow.specs.declared.plan.PlanPart.{PlanPart}
+use Rattle.homeo_follow.specs.declared.part.PlanPart.{PlanPart}
 use Rattle.homeo_build.specs.inner.Frozen.{frozen_from}
 use Rattle.homeo_build.proofs.ByObjects.{sets_asked, places_within, small_asked, template_is, none_frozen, frozen_next, all_frozen}
 use Rattle.homeo_build.proofs.Following.{shared_part, shared_atoms, brought_each, atoms_each, place_within, made_there}

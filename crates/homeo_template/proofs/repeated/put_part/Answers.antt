@@ -8,7 +8,7 @@ use Rattle.homeo_plan.specs.Limit.{form_limit}
 use Rattle.homeo_plan.specs.Linear.{Linear}
 use Rattle.homeo_plan.specs.PlanView.{plain_atom}
 use Rattle.homeo_plan.specs.Template.{clauses_from}
-use Rattle.homeo_follow.specs.declared.plan.PlanPart.{PlanPart}
+use Rattle.homeo_follow.specs.declared.part.PlanPart.{PlanPart}
 use Rattle.homeo_template.specs.Places.{set_at}
 use Rattle.homeo_template.specs.inner.Keys.{clauses_in}
 use Rattle.homeo_template.specs.inner.Met.{atoms_of_part}

@@ -1,0 +1,5 @@
+pub mod Key
+pub mod Numbers
+pub mod ObjectPlan
+pub mod Outlined
+pub mod inner
