@@ -9,5 +9,6 @@ pub mod Standing
 pub mod Staying
 pub mod Templated
 pub mod Terms
+pub mod Unmoved
 pub mod Walked
 pub mod Weighed
