@@ -22,35 +22,35 @@ use Rattle.homeo_plan.proofs.Atoms.{each_append as each_parts}
 use Rattle.homeo_follow.proofs.Staying.{parts_stay}
 use Rattle.homeo_follow.proofs.Terms.{OfEach, each_adds, each_scale, each_append}
 
--- where P holds of each object that a command names
+-- what holds of both holds of the one that is taken
+either : {X : Type 0} (Q : X → Type 0) (v : Bool) (x y : X) → Q x → Q y → Q (cond v x y)
+either Q true x y h k = h
+either Q false x y h k = k
+
+-- ---- where P holds of each object that a command names
 module _ (P : ℕ → Type 0) where
-  -- ---- forms
   -- P holds of the object of each term
   abbrev IsOf : Linear → Type 0
   IsOf a = OfEach (λ e. P e.object) a.terms
 
-  sum_of : (a c : Linear) → IsOf a → IsOf c → IsOf (add_forms a c)
+  add_of : (a c : Linear) → IsOf a → IsOf c → IsOf (add_forms a c)
   unfolding plan_definitions
-  sum_of a c h k = each_adds (λ e. P e.object) a.terms c.terms h k
+  add_of a c h k = each_adds (λ e. P e.object) a.terms c.terms h k
 
-  multiple_of : (n : ℤ) (a : Linear) → IsOf a → IsOf (scale_form n a)
+  scale_of : (n : ℤ) (a : Linear) → IsOf a → IsOf (scale_form n a)
   unfolding plan_definitions
-  multiple_of n a h = each_scale (λ e. P e.object) n a.terms h
+  scale_of n a h = each_scale (λ e. P e.object) n a.terms h
 
-  product_of : (a c : Linear) → IsOf a → IsOf c → IsOf (multiply_forms a c)
+  multiply_of : (a c : Linear) → IsOf a → IsOf c → IsOf (multiply_forms a c)
   unfolding plan_definitions
-  product_of a c h k = go (is_pure a) (is_pure c)
-    where
-      go : (u v : Bool) → IsOf (cond u (scale_form a.constant c) (cond v (scale_form c.constant a) (mix_forms a c)))
-      go true v = multiple_of a.constant c k
-      go false true = multiple_of c.constant a h
-      go false false = tt
+  multiply_of a c h k =
+      either IsOf (is_pure a) (scale_form a.constant c) (cond (is_pure c) (scale_form c.constant a) (mix_forms a c)) (scale_of a.constant c k)
+      (either IsOf (is_pure c) (scale_form c.constant a) (mix_forms a c) (scale_of c.constant a h) tt)
 
   difference_of : (a c : Linear) (n : ℤ) → IsOf a → IsOf c → IsOf (difference a c n)
   unfolding plan_definitions
   difference_of a c n h k =
-      sum_of (constant_form n) (add_forms a (scale_form (negsuc 0) c)) tt
-      (sum_of a (scale_form (negsuc 0) c) h (multiple_of (negsuc 0) c k))
+      add_of (constant_form n) (add_forms a (scale_form (negsuc 0) c)) tt (add_of a (scale_form (negsuc 0) c) h (scale_of (negsuc 0) c k))
 
   true_of : (op : Compare) (a c : Linear) → IsOf a → IsOf c → Each IsOf (true_comparison op a c)
   unfolding plan_definitions
@@ -62,37 +62,33 @@ module _ (P : ℕ → Type 0) where
   unfolding plan_definitions
   false_of Less v a c h k = (difference_of c a (pos 0) k h, tt)
   false_of LessEqual v a c h k = (difference_of c a (pos 1) k h, tt)
-  false_of Equal true a c h k = (difference_of a c (pos 1) h k, tt)
-  false_of Equal false a c h k = (difference_of c a (pos 1) k h, tt)
+  false_of Equal v a c h k =
+      (either IsOf v (difference a c (pos 1)) (difference c a (pos 1)) (difference_of a c (pos 1) h k) (difference_of c a (pos 1) k h), tt)
 
-  -- ---- forms at each place that may be named
-  abbrev IsThere : Location → Type 0
-  IsThere (TempAt t) = Unit {0}
-  IsThere (BaseAt x) = P x
-  IsThere (DeltaAt x j) = Unit {0}
+  -- ---- at each place that may be named
+  abbrev MayBeNamed : Location → Type 0
+  MayBeNamed (TempAt t) = Unit {0}
+  MayBeNamed (BaseAt x) = P x
+  MayBeNamed (DeltaAt x j) = Unit {0}
 
   abbrev AreOf : Forms → Type 0
-  AreOf f = (p : Location) → IsThere p → IsOf (f p)
+  AreOf f = (p : Location) → MayBeNamed p → IsOf (f p)
 
-  bases_of : (b : ℕ → ℤ) → AreOf (object_forms b)
+  object_forms_of : (b : ℕ → ℤ) → AreOf (object_forms b)
   unfolding definitions plan_definitions
-  bases_of b (TempAt t) h = tt
-  bases_of b (BaseAt x) h = (h, tt)
-  bases_of b (DeltaAt x j) h = tt
+  object_forms_of b (TempAt t) h = tt
+  object_forms_of b (BaseAt x) h = (h, tt)
+  object_forms_of b (DeltaAt x j) h = tt
 
   put_of : (f : Forms) (p : Location) (a : Linear) → AreOf f → IsOf a → AreOf (put f p a)
   unfolding meaning_definitions
-  put_of f p a h k q there = go (same_location p q)
-    where
-      go : (v : Bool) → IsOf (cond v a (f q))
-      go true = k
-      go false = h q there
+  put_of f p a h k q named = either IsOf (same_location p q) a (f q) k (h q named)
 
-  name_there : (x : SplitName) → P (object_of x) → IsThere (location_of x)
+  name_of : (x : SplitName) → P (object_of x) → MayBeNamed (location_of x)
   unfolding definitions meaning_definitions
-  name_there (Whole x) h = h
-  name_there (Base x) h = h
-  name_there (Delta x j) h = tt
+  name_of (Whole x) h = h
+  name_of (Base x) h = h
+  name_of (Delta x j) h = tt
 
   module _ (f : Forms) (h : AreOf f) where
     mutual
@@ -101,24 +97,23 @@ module _ (P : ℕ → Type 0) where
       form_of : (e : Expr) → Each P (named_in_expr e) → IsOf (form f e)
       form_of (Literal n) w = tt
       form_of (OfTemp t) w = h (TempAt t) tt
-      form_of (Read x) w = h (location_of x) (name_there x w.0)
-      form_of (Sum es) w = sums_of es (constant_form (pos 0)) w tt
-      form_of (Product es) w = products_of es (constant_form (pos 1)) w tt
-      form_of (Neg e) w = multiple_of (negsuc 0) (form f e) (form_of e w)
+      form_of (Read x) w = h (location_of x) (name_of x w.0)
+      form_of (Sum es) w = sum_of es (constant_form (pos 0)) w tt
+      form_of (Product es) w = product_of es (constant_form (pos 1)) w tt
+      form_of (Neg e) w = scale_of (negsuc 0) (form f e) (form_of e w)
 
-      sums_of : (es : Exprs) (a : Linear) → Each P (named_in_exprs es) → IsOf a → IsOf (sum_form f a es)
-      sums_of NoExpr a w k = k
-      sums_of (MoreExpr e es) a w k =
+      sum_of : (es : Exprs) (a : Linear) → Each P (named_in_exprs es) → IsOf a → IsOf (sum_form f a es)
+      sum_of NoExpr a w k = k
+      sum_of (MoreExpr e es) a w k =
           let parts = each_parts P (named_in_expr e) (named_in_exprs es) w in
-          sums_of es (add_forms (form f e) a) parts.1 (sum_of (form f e) a (form_of e parts.0) k)
+          sum_of es (add_forms (form f e) a) parts.1 (add_of (form f e) a (form_of e parts.0) k)
 
-      products_of : (es : Exprs) (a : Linear) → Each P (named_in_exprs es) → IsOf a → IsOf (product_form f a es)
-      products_of NoExpr a w k = k
-      products_of (MoreExpr e es) a w k =
+      product_of : (es : Exprs) (a : Linear) → Each P (named_in_exprs es) → IsOf a → IsOf (product_form f a es)
+      product_of NoExpr a w k = k
+      product_of (MoreExpr e es) a w k =
           let parts = each_parts P (named_in_expr e) (named_in_exprs es) w in
-          products_of es (multiply_forms a (form f e)) parts.1 (product_of a (form f e) k (form_of e parts.0))
+          product_of es (multiply_forms a (form f e)) parts.1 (multiply_of a (form f e) k (form_of e parts.0))
 
-    -- ---- tests
     mutual
       unfolding definitions plan_definitions
 
@@ -146,11 +141,7 @@ module _ (P : ℕ → Type 0) where
       failed_of NoTest w = tt
       failed_of (MoreTest t c) w =
           let parts = each_parts P (named_in_test t) (named_in_cond c) w in
-          go (passes_by f t) (failed_of c parts.1) (failed_test_of t parts.0)
-        where
-          go : (v : Bool) → Each IsOf (failed f c) → Each IsOf (failed_test f t) → Each IsOf (cond v (failed f c) (failed_test f t))
-          go true p q = p
-          go false p q = q
+          either (Each IsOf) (passes_by f t) (failed f c) (failed_test f t) (failed_of c parts.1) (failed_test_of t parts.0)
 
   -- ---- commands
   record IsFollowedOf (r : Followed) : Type 0 where
@@ -173,12 +164,9 @@ module _ (P : ℕ → Type 0) where
     follow_of (If t c d) f w h =
         let parts = each_parts P (named_in_cond t) (named c ++ named d) w in
         let both = each_parts P (named c) (named d) parts.1 in
-        go (holds_by f t) (asked_of (passed f t) (follow c f) (passed_of f h t parts.0) (follow_of c f both.0 h))
+        either IsFollowedOf (holds_by f t) (asked (passed f t) (follow c f)) (asked (failed f t) (follow d f))
+        (asked_of (passed f t) (follow c f) (passed_of f h t parts.0) (follow_of c f both.0 h))
         (asked_of (failed f t) (follow d f) (failed_of f h t parts.0) (follow_of d f both.1 h))
-      where
-        go : (v : Bool) {r q : Followed} → IsFollowedOf r → IsFollowedOf q → IsFollowedOf (cond v r q)
-        go true p q = p
-        go false p q = q
 
     follow_all_of : (cs : Commands) (f : Forms) → Each P (named_in_all cs) → AreOf f → IsFollowedOf (follow_all cs f)
     follow_all_of NoCommand f w h = record { atoms = tt; forms = h }
@@ -201,20 +189,21 @@ module _ (b d : ℕ → ℤ) where
       no_gain : (f m n z : ℤ) → m ≡ n → z ≡ pos 0 → (f *ℤ (n +ℤ neg_ℤ m)) +ℤ z ≡ pos 0
       no_gain f m n z e p = grind (arith, ints, e, p)
 
-  unmoved : (fs : List Linear) → Each (IsOf Agree) fs → map (rebased_form (gains b d)) fs ≡ fs
-  unfolding definitions plan_definitions
-  unmoved [] h = refl
-  unmoved (a ∷ fs) h = ap₂ ◌∷◌ (λ i. record { constant = same a.constant (gained_none a.terms h.0) i; terms = a.terms; mixed = a.mixed }) (unmoved fs h.1)
-    where
-      same : (n : ℤ) {z : ℤ} → z ≡ pos 0 → n +ℤ z ≡ n
-      same n e = grind (arith, ints, e)
-
-  pub rebased_there : (c : Command) → Each Agree (named c) → brought d c ≡ rebased (gains b d) (brought b c)
+  unmoved : (a : Linear) → IsOf Agree a → rebased_form (gains b d) a ≡ a
   unfolding definitions
-  rebased_there c w =
+  unmoved a h = λ i. record { constant = same a.constant (gained (gains b d) a.terms) (gained_none a.terms h) i; terms = a.terms; mixed = a.mixed }
+    where
+      same : (n z : ℤ) → z ≡ pos 0 → n +ℤ z ≡ n
+      same n z e = grind (arith, ints, e)
+
+  all_unmoved : (fs : List Linear) → Each (IsOf Agree) fs → map (rebased_form (gains b d)) fs ≡ fs
+  unfolding plan_definitions
+  all_unmoved [] h = refl
+  all_unmoved (a ∷ fs) h = ap₂ ◌∷◌ (unmoved a h.0) (all_unmoved fs h.1)
+
+  pub parts_rebased : (c : Command) → Each Agree (named c) → brought d c ≡ rebased (gains b d) (brought b c)
+  unfolding definitions
+  parts_rebased c w =
       sym (parts_stay b d c w)
       ∙ ap (λ atoms. record { atoms = atoms; needs = needed b (followed b c) })
-      (sym (unmoved (followed b c).atoms (follow_of Agree c (object_forms b) w (bases_of Agree b)).atoms))
-
-pub parts_rebased : (b d : ℕ → ℤ) (c : Command) → Each (λ x. b x ≡ d x) (named c) → brought d c ≡ rebased (gains b d) (brought b c)
-parts_rebased b d c w = rebased_there b d c w
+      (sym (all_unmoved (followed b c).atoms (follow_of Agree c (object_forms b) w (object_forms_of Agree b)).atoms))
