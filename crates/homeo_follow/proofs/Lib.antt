@@ -10,5 +10,6 @@ pub mod Staying
 pub mod Templated
 pub mod TermTests
 pub mod Terms
+pub mod Unmoved
 pub mod Walked
 pub mod Weighed

@@ -27,7 +27,7 @@ ghost use Rattle.homeo_follow.specs.FollowSizes.{AreNumbers, CanBeFollowed};
 ghost use Rattle.homeo_follow.specs.Lines.{RunsByLines};
 ghost use Rattle.homeo_follow.specs.Named.{named};
 ghost use Rattle.homeo_follow.specs.ObjectTemplate.{expanded_clause, IsByObjects};
-ghost use Rattle.homeo_follow.specs.Rebased.{rebased_clause, rebased};
+ghost use Rattle.homeo_follow.specs.Rebased.{rebased_clause, rebased, gains};
 ghost use Rattle.homeo_follow.specs.Taken.{AreTaken, taken};
 
 /// The atoms of a ground call over whole objects, at its site and at a base, are those of its command followed by objects, with
@@ -80,9 +80,12 @@ pub fn accepted_calls_are_followed_by_small_forms()
         AreNumbers (IsSmall form_limit) (followed (values_of base) (ground_form w g)).forms }
 {}
 
-/// What a command brings to a plan is the same at two bases that agree on the objects that it names.
+/// What a command brings to a plan is the same at two bases that agree on the objects that it names. It is also the same rebased,
+/// since what the command asks has terms of these objects alone, and they gain nothing.
 pub fn parts_stay()
-    ensures { (b d : ℕ → ℤ) (c : Command) → Each (λ x. b x ≡ d x) (named c) → brought b c ≡ brought d c }
+    ensures same { (b d : ℕ → ℤ) (c : Command) → Each (λ x. b x ≡ d x) (named c) → brought b c ≡ brought d c }
+    ensures rebased { (b d : ℕ → ℤ) (c : Command) → Each (λ x. b x ≡ d x) (named c) →
+        brought d c ≡ rebased (gains b d) (brought b c) }
 {}
 
 /// Where what each of several ground calls brings at one base is what it brings at another, rebased, so is their template: a
