@@ -25,7 +25,7 @@ use Rattle.homeo_plan.specs.declared.round.RoundPlan.{RoundPlan}
 use Rattle.homeo_plan.specs.Template.{PlannedCall, atoms_of, needs_of, atoms_of_sets, put_all, Template, template}
 use Rattle.homeo_follow.specs.Key.{definitions as follow_definitions}
 use Rattle.homeo_follow.specs.ObjectTemplate.{expanded_clause}
-use Rattle.homeo_follow.specs.declared.plan.ObjectPlan.{ObjectPlan}
+use Rattle.homeo_outline.specs.declared.plan.ObjectPlan.{ObjectPlan}
 use Rattle.homeo_plan.proofs.DeltaLists.{After, in_order_puts, each_put_all}
 use Rattle.homeo_follow.proofs.Terms.{each_append}
 use Rattle.homeo_build.specs.Plan.{IsPlanOf, IsObjectPlan}

@@ -17,7 +17,7 @@ use Rattle.homeo_plan.specs.Template.{Clause, Template}
 use Rattle.homeo_plan.specs.declared.templates.Config.{Config}
 use Rattle.homeo_plan.proofs.Policy.{slacks_law, policy_fits}
 use Rattle.homeo_follow.specs.Key.{definitions}
-use Rattle.homeo_follow.specs.ObjectPlan.{config_or}
+use Rattle.homeo_outline.specs.ObjectPlan.{config_or}
 use Rattle.homeo_follow.specs.ObjectTemplate.{expanded_clause, expanded_template}
 use Rattle.homeo_build.proofs.ByObjects.{small_slacks}
 

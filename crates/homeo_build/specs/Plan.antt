@@ -13,8 +13,8 @@ use Rattle.homeo_plan.specs.Template.{PlannedCall, base_row}
 use Rattle.homeo_plan.specs.Planned.{sites_of, planned, template_at}
 use Rattle.homeo_plan.specs.PlanView.{plain_residual, plain_template, plain_config}
 use Rattle.homeo_follow.specs.Brought.{brought, plain_part}
-use Rattle.homeo_follow.specs.ObjectPlan.{template_in}
-use Rattle.homeo_follow.specs.declared.plan.ObjectPlan.{ObjectPlan}
+use Rattle.homeo_outline.specs.ObjectPlan.{template_in}
+use Rattle.homeo_outline.specs.declared.plan.ObjectPlan.{ObjectPlan}
 use Rattle.homeo_follow.specs.declared.part.PlanPart.{PlanPart}
 use Rattle.homeo_build.specs.Key.{definitions}
 use Rattle.homeo_build.specs.Forms.{call_forms}

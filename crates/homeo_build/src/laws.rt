@@ -13,7 +13,7 @@ ghost use Rattle.homeo_plan.specs.Template.{PlannedCall};
 ghost use Rattle.homeo_plan.specs.Treaty.{Treaty};
 ghost use Rattle.homeo_plan.specs.declared.rows.Residual.{Residual};
 ghost use Rattle.homeo_plan.specs.declared.round.RoundPlan.{RoundPlan};
-ghost use Rattle.homeo_follow.specs.declared.plan.ObjectPlan.{ObjectPlan};
+ghost use Rattle.homeo_outline.specs.declared.plan.ObjectPlan.{ObjectPlan};
 ghost use Rattle.homeo_build.specs.Plan.{sited_residual, residuals_at, IsPlanOf, IsObjectPlan};
 
 /// Where each site's deltas keep its treaty of a plan, a ground call of the workload does on the deltas of all sites what its

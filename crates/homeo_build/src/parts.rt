@@ -18,7 +18,8 @@ ghost use Rattle.homeo_build.specs.Plan.{AreParts, IsObjectPlan};
 ghost use Rattle.homeo_build.specs.inner.Followed.{IsSmallAlong};
 
 use crate::compiled::Compiled;
-use homeo_follow::{ObjectPlan, PlanPart};
+use homeo_follow::PlanPart;
+use homeo_outline::ObjectPlan;
 use homeo_linear::follow_at;
 use homeo_meaning::Database;
 use homeo_meaning::padded::item_or;

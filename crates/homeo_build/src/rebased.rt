@@ -12,7 +12,8 @@ ghost use Rattle.homeo_build.specs.Plan.{AreParts, IsObjectPlan};
 
 use crate::calls::object_template;
 use crate::compiled::Compiled;
-use homeo_follow::{ObjectPlan, PlanPart};
+use homeo_follow::PlanPart;
+use homeo_outline::ObjectPlan;
 use homeo_meaning::Database;
 use homeo_plan::Template;
 use homeo_syntax::{List, Memory};

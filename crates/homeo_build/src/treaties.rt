@@ -13,7 +13,7 @@ ghost use Rattle.homeo_plan.specs.PlanView.{plain_template, plain_config};
 ghost use Rattle.homeo_plan.specs.Planned.{sites_of, template_at, shares_of, policy};
 ghost use Rattle.homeo_plan.specs.declared.templates.Config.{Config};
 ghost use Rattle.homeo_plan.specs.Linear.{AreInOrder};
-ghost use Rattle.homeo_follow.specs.ObjectPlan.{config_or, config_in};
+ghost use Rattle.homeo_outline.specs.ObjectPlan.{config_or, config_in};
 ghost use Rattle.homeo_follow.specs.ObjectTemplate.{expanded_template};
 ghost use Rattle.homeo_build.specs.Plan.{AreParts, IsPlanOf, IsObjectPlan};
 
@@ -24,7 +24,8 @@ use crate::rebased::template_after;
 use crate::shares::shares;
 use crate::sites::site_count;
 use homeo_config::{split_even, split_weighted};
-use homeo_follow::{ObjectPlan, PlanPart};
+use homeo_follow::PlanPart;
+use homeo_outline::ObjectPlan;
 use homeo_meaning::Database;
 use homeo_plan::{Config, RoundPlan, Template};
 use homeo_syntax::{List, Memory};

@@ -16,7 +16,7 @@ use Rattle.homeo_syntax.proofs.low.LExpr.TheLaws.TheKnot as low_expression
 use Rattle.homeo_syntax.proofs.low.LTest.TheLaws.TheKnot as low_test
 use Rattle.homeo_syntax.proofs.phrase.Expr.TheLaws.TheKnot as phrase
 use Rattle.homeo_meaning.specs.contracts.accepted.Accepted as Accepted
-use Rattle.homeo_follow.specs.contracts.plan.ObjectPlan as ObjectPlan
+use Rattle.homeo_outline.specs.contracts.plan.ObjectPlan as ObjectPlan
 use Rattle.homeo_context.specs.contracts.declarations.Declarations as Declarations
 use Rattle.homeo_ground.specs.contracts.grounding.Grounding as Grounding
 use Rattle.homeo_build.specs.contracts.compiled.Compiled as Compiled

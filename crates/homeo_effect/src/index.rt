@@ -2,11 +2,11 @@
 
 ghost use Rattle.std.specs.Prelude.{◌≡◌, ◌+◌, ◌<◌, ◌^◌, length, map, IfOk};
 ghost use Rattle.homeo_syntax.specs.LowView.{low_commands, plain_lcommand};
-ghost use Rattle.homeo_follow.specs.ObjectPlan.{template_in};
+ghost use Rattle.homeo_outline.specs.ObjectPlan.{template_in};
 ghost use Rattle.homeo_effect.specs.Touched.{written, WritesOwn, touched_clauses, touched_freezes};
 
 use crate::uses::{clause_uses, freeze_uses, touched};
-use homeo_follow::ObjectPlan;
+use homeo_outline::ObjectPlan;
 use homeo_syntax::{LCommand, List, Memory};
 use std::alloc::Global;
 use std::marker::Model;
@@ -24,7 +24,7 @@ pub struct TreatyIndex {
 
 impl Model for TreatyIndex {
     ghost use Rattle.std.specs.Prelude.{map, length};
-    ghost use Rattle.homeo_follow.specs.ObjectPlan.{template_in};
+    ghost use Rattle.homeo_outline.specs.ObjectPlan.{template_in};
     ghost use Rattle.homeo_effect.specs.Indexed.{Indexed};
     ghost use Rattle.homeo_effect.specs.inner.Uses.{KeepsClauses, KeepsFreezes};
 

@@ -28,7 +28,7 @@ use Rattle.homeo_effect.specs.OwnState.{own_state}
 use Rattle.homeo_effect.specs.Program.{plain_program}
 use Rattle.homeo_effect.specs.Touched.{written, is_touched, is_among, touched_clauses, touched_freezes}
 use Rattle.homeo_effect.specs.declared.program.Program.{Program}
-use Rattle.homeo_follow.specs.declared.plan.ObjectPlan.{ObjectPlan}
+use Rattle.homeo_outline.specs.declared.plan.ObjectPlan.{ObjectPlan}
 use Rattle.homeo_site.specs.OwnCalls.{RunsAs, IsOwnCall, AreOwnCalls}
 use Rattle.homeo_site.specs.declared.own_calls.OwnCall.{OwnCall}
 use Rattle.homeo_site.specs.declared.own_calls.OwnCalls.{OwnCalls}

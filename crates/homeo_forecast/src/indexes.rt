@@ -1,11 +1,11 @@
 //! Which clauses and freezes stand on each site's deltas.
 
 ghost use Rattle.std.specs.Prelude.{◌+◌, ◌<◌, ◌^◌, length, IfOk};
-ghost use Rattle.homeo_follow.specs.ObjectPlan.{template_in};
+ghost use Rattle.homeo_outline.specs.ObjectPlan.{template_in};
 ghost use Rattle.homeo_forecast.specs.inner.Prepared.{AreIndexes};
 
 use homeo_effect::TreatyIndex;
-use homeo_follow::ObjectPlan;
+use homeo_outline::ObjectPlan;
 use homeo_syntax::{List, Memory};
 use std::alloc::Global;
 use std::sync::Arc;

@@ -12,7 +12,7 @@ use crate::indexes::indexes;
 use homeo_build::Compiled;
 use homeo_build::treaties::plan_at;
 use homeo_effect::TreatyIndex;
-use homeo_follow::ObjectPlan;
+use homeo_outline::ObjectPlan;
 use homeo_meaning::{CallId, Database};
 use homeo_plan::Template;
 use homeo_syntax::{List, Memory};

@@ -6,7 +6,7 @@ ghost use Rattle.homeo_syntax.specs.LowView.{plain_lexpr};
 ghost use Rattle.homeo_plan_tests.specs.inner.ResidualExample.{lowered, IsExample};
 
 use crate::object::{base, object_sum, pair, sum};
-use homeo_follow::ObjectPlan;
+use homeo_outline::ObjectPlan;
 use homeo_plan::{Clause, Config, Delta, Residual, Template, Term};
 use homeo_syntax::{LCommand, LExpr, List, SplitName, Temp};
 use std::alloc::Global;

@@ -8,9 +8,9 @@ use Rattle.homeo_plan.specs.declared.forms.Delta.{Delta}
 use Rattle.homeo_plan.specs.declared.templates.Clause as clause
 use Rattle.homeo_plan.specs.Config.{Config}
 use Rattle.homeo_follow.specs.Key.{definitions as follow_definitions}
-use Rattle.homeo_follow.specs.ObjectPlan.{template_in, config_in}
+use Rattle.homeo_outline.specs.ObjectPlan.{template_in, config_in}
 use Rattle.homeo_follow.specs.ObjectTemplate.{expanded_clause}
-use Rattle.homeo_follow.specs.declared.plan.ObjectPlan.{ObjectPlan}
+use Rattle.homeo_outline.specs.declared.plan.ObjectPlan.{ObjectPlan}
 use Rattle.homeo_effect.specs.Indexed.{Indexed}
 use Rattle.homeo_site.specs.Key.{definitions}
 use Rattle.homeo_site.specs.inner.Failures.{first_of}

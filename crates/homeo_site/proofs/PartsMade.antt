@@ -7,8 +7,8 @@ use Rattle.homeo_meaning.specs.Acceptance.{IsAccepted}
 use Rattle.homeo_plan.specs.Planned.{sites_of, policy}
 use Rattle.homeo_plan.specs.PlanView.{plain_template}
 use Rattle.homeo_follow.specs.Key.{definitions as follow_definitions}
-use Rattle.homeo_follow.specs.ObjectPlan.{template_in, config_in}
-use Rattle.homeo_follow.specs.declared.plan.ObjectPlan.{ObjectPlan}
+use Rattle.homeo_outline.specs.ObjectPlan.{template_in, config_in}
+use Rattle.homeo_outline.specs.declared.plan.ObjectPlan.{ObjectPlan}
 use Rattle.homeo_build.specs.Plan.{IsObjectPlan}
 use Rattle.homeo_build.proofs.FewFreezes.{object_plan_few}
 use Rattle.homeo_build.proofs.PlanParts.{has_object_slack, small_object_slacks}

@@ -3,7 +3,7 @@
 ghost use Rattle.std.specs.Prelude.{◌≡◌, ◌<◌, List, ℤ, IfOk};
 ghost use Rattle.homeo_syntax.specs.SourceView.{plain_workload};
 ghost use Rattle.homeo_plan.specs.Planned.{sites_of, planned_at, policy};
-ghost use Rattle.homeo_follow.specs.ObjectPlan.{template_in, config_in};
+ghost use Rattle.homeo_outline.specs.ObjectPlan.{template_in, config_in};
 ghost use Rattle.homeo_build.specs.Plan.{IsObjectPlan};
 ghost use Rattle.homeo_history.specs.Legal.{IsCallAt};
 ghost use Rattle.homeo_site.specs.OwnCalls.{IsOwnCall, AreOwnCalls};
@@ -14,7 +14,7 @@ ghost use Rattle.homeo_site.specs.inner.Parts.{CanKeep};
 use crate::own_calls::{OwnCall, OwnCalls};
 use crate::own_treaty::OwnTreaty;
 use homeo_build::Compiled;
-use homeo_follow::ObjectPlan;
+use homeo_outline::ObjectPlan;
 use homeo_meaning::CallId;
 use homeo_syntax::Memory;
 use std::alloc::Global;

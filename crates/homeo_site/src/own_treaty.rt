@@ -5,14 +5,14 @@ ghost use Rattle.std.specs.Int.{w128};
 ghost use Rattle.homeo_meaning.specs.Serial.{values_of};
 ghost use Rattle.homeo_plan.specs.PlanView.{plain_config};
 ghost use Rattle.homeo_plan.specs.Treaty.{bound_at};
-ghost use Rattle.homeo_follow.specs.ObjectPlan.{template_in, config_in};
+ghost use Rattle.homeo_outline.specs.ObjectPlan.{template_in, config_in};
 ghost use Rattle.homeo_site.specs.inner.Failures.{sum_failure, freeze_failure, first_of, first_failure, own_failure, own_freeze_failure};
 ghost use Rattle.homeo_site.specs.inner.Parts.{own_term, own_bounds, with_bounds, CanKeep};
 ghost use Rattle.homeo_site.specs.OwnTreaty.{own_sum, SumsFit, own_clauses};
 
 use homeo_config::even_bound;
 use homeo_effect::TreatyIndex;
-use homeo_follow::ObjectPlan;
+use homeo_outline::ObjectPlan;
 use homeo_meaning::padded::item_or;
 use homeo_plan::{Broken, Clause, Config, Delta, Term};
 use homeo_syntax::{List, Memory};
@@ -171,7 +171,7 @@ pub struct OwnTreaty {
 }
 
 impl Model for OwnTreaty {
-    ghost use Rattle.homeo_follow.specs.ObjectPlan.{template_in, config_in};
+    ghost use Rattle.homeo_outline.specs.ObjectPlan.{template_in, config_in};
     ghost use Rattle.homeo_site.specs.TreatyPart.{TreatyPart};
     ghost use Rattle.homeo_site.specs.inner.Parts.{IsOwnTreaty};
 

@@ -12,7 +12,7 @@ use crate::attempts::{Change, Outcome, Room};
 use crate::lists::{copy_to_all, empty_copies, empty_prints, zeros};
 use crate::own_round::OwnRound;
 use crate::start::SiteStart;
-use homeo_follow::ObjectPlan;
+use homeo_outline::ObjectPlan;
 use homeo_history::{Entry, Segment};
 use homeo_meaning::{CallId, Database};
 use homeo_syntax::{List, Memory, Prints};

@@ -3,12 +3,12 @@
 ghost use Rattle.std.specs.Prelude.{◌≡◌, ◌<◌, IfOk};
 ghost use Rattle.homeo_syntax.specs.SourceView.{plain_workload};
 ghost use Rattle.homeo_plan.specs.Planned.{sites_of, policy};
-ghost use Rattle.homeo_follow.specs.ObjectPlan.{config_in};
+ghost use Rattle.homeo_outline.specs.ObjectPlan.{config_in};
 ghost use Rattle.homeo_build.specs.Plan.{IsObjectPlan};
 
 use crate::own_round::OwnRound;
 use homeo_build::Compiled;
-use homeo_follow::ObjectPlan;
+use homeo_outline::ObjectPlan;
 use homeo_history::Segment;
 use homeo_meaning::Database;
 use homeo_syntax::{List, Memory};

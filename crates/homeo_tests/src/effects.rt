@@ -11,7 +11,7 @@ use homeo_build::residuals::residual;
 use homeo_build::treaties::plan_at;
 use homeo_effect::{SiteEffects, TreatyIndex, effects};
 use homeo_eval::initial;
-use homeo_follow::ObjectPlan;
+use homeo_outline::ObjectPlan;
 use homeo_meaning::Database;
 use homeo_plan::Row;
 use homeo_print::{ObjectNames, print_row};

@@ -5,13 +5,13 @@ ghost use Rattle.homeo_syntax.specs.SourceView.{plain_workload};
 ghost use Rattle.homeo_meaning.specs.Bounds.{IsWithin};
 ghost use Rattle.homeo_meaning.specs.Schema.{schema_of};
 ghost use Rattle.homeo_plan.specs.Planned.{sites_of, policy};
-ghost use Rattle.homeo_follow.specs.ObjectPlan.{config_in};
+ghost use Rattle.homeo_outline.specs.ObjectPlan.{config_in};
 ghost use Rattle.homeo_build.specs.Plan.{IsObjectPlan};
 ghost use Rattle.homeo_wire.specs.inner.Planning.{IsPlan};
 
 use homeo_build::Compiled;
 use homeo_build::treaties::{plan_after, plan_at};
-use homeo_follow::ObjectPlan;
+use homeo_outline::ObjectPlan;
 use homeo_meaning::Database;
 use homeo_site::SiteStart;
 use homeo_syntax::Memory;

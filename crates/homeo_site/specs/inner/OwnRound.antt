@@ -3,8 +3,8 @@ use Rattle.std.specs.Prelude.{◌≡◌, ℕ, ◌<◌, List, ℤ, Option, IfSome
 use Rattle.homeo_syntax.specs.Source as s
 use Rattle.homeo_meaning.specs.Acceptance.{IsAccepted}
 use Rattle.homeo_plan.specs.Planned.{sites_of, policy}
-use Rattle.homeo_follow.specs.ObjectPlan.{config_in}
-use Rattle.homeo_follow.specs.declared.plan.ObjectPlan.{ObjectPlan}
+use Rattle.homeo_outline.specs.ObjectPlan.{config_in}
+use Rattle.homeo_outline.specs.declared.plan.ObjectPlan.{ObjectPlan}
 use Rattle.homeo_build.specs.Plan.{IsObjectPlan}
 use Rattle.homeo_site.specs.declared.own_round.OwnParts.{OwnParts}
 use Rattle.homeo_site.specs.OwnCalls.{AreOwnCalls}

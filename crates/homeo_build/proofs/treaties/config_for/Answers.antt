@@ -5,7 +5,7 @@ use Rattle.homeo_plan.specs.Config.{split_by}
 use Rattle.homeo_plan.specs.PlanView.{plain_template}
 use Rattle.homeo_plan.specs.Planned.{shares_of}
 use Rattle.homeo_follow.specs.Key.{definitions}
-use Rattle.homeo_follow.specs.ObjectPlan.{config_or}
+use Rattle.homeo_outline.specs.ObjectPlan.{config_or}
 use Rattle.homeo_build.proofs.treaties.config_for.Goals as goal
 
 pub returns-in-Some : goal.returns-in-Some

@@ -4,7 +4,7 @@ use Rattle.homeo_syntax.specs.SourceView.{plain_workload}
 use Rattle.homeo_plan.specs.PlanView.{plain_template}
 use Rattle.homeo_follow.specs.Key.{definitions}
 use Rattle.homeo_follow.specs.ObjectTemplate.{expanded_template}
-use Rattle.homeo_follow.specs.ObjectPlan.{config_in}
+use Rattle.homeo_outline.specs.ObjectPlan.{config_in}
 use Rattle.homeo_build.specs.Plan.{IsObjectPlan}
 use Rattle.homeo_build.proofs.ByObjects.{small_slacks}
 use Rattle.homeo_build.proofs.PlanParts.{has_slack, policy_is}

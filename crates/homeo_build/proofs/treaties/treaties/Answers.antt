@@ -4,7 +4,7 @@ use Rattle.homeo_syntax.specs.declared.workload.Workload.{Workload}
 use Rattle.homeo_meaning.specs.Acceptance.{IsAccepted}
 use Rattle.homeo_plan.specs.PlanView.{plain_template}
 use Rattle.homeo_plan.specs.Planned.{sites_of}
-use Rattle.homeo_follow.specs.ObjectPlan.{config_or}
+use Rattle.homeo_outline.specs.ObjectPlan.{config_or}
 use Rattle.homeo_build.proofs.PlanParts.{has_slack, policy_is, config_fits}
 use Rattle.homeo_build.proofs.treaties.treaties.Goals as goal
 

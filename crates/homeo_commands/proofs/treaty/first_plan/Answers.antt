@@ -4,7 +4,7 @@ use Rattle.homeo_syntax.specs.SourceView.{plain_workload}
 use Rattle.homeo_meaning.specs.Initial.{initial}
 use Rattle.homeo_plan.specs.PlanView.{plain_config}
 use Rattle.homeo_plan.specs.Planned.{sites_of, template_at, policy}
-use Rattle.homeo_follow.specs.Key.{definitions}
+use Rattle.homeo_outline.specs.Key.{definitions}
 use Rattle.homeo_build.specs.Plan.{IsPlanOf}
 use Rattle.homeo_commands.proofs.Bounded.{as_many_bounds}
 use Rattle.homeo_commands.proofs.treaty.first_plan.Goals as goal

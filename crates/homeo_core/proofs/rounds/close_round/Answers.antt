@@ -10,7 +10,7 @@ use Rattle.homeo_meaning.specs.Schema.{schema_of}
 use Rattle.homeo_meaning.specs.Serial.{call_outcome}
 use Rattle.homeo_plan.specs.Planned.{sites_of}
 use Rattle.homeo_plan.proofs.Policy.{some_sites}
-use Rattle.homeo_follow.specs.declared.plan.ObjectPlan.{ObjectPlan}
+use Rattle.homeo_outline.specs.declared.plan.ObjectPlan.{ObjectPlan}
 use Rattle.homeo_build.specs.Plan.{IsObjectPlan}
 use Rattle.homeo_history.specs.Answers.{closing_answer}
 use Rattle.homeo_history.specs.Follows.{site_or_zero}

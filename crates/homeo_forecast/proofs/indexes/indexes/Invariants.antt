@@ -1,4 +1,4 @@
-use Rattle.homeo_follow.specs.ObjectPlan.{template_in}
+use Rattle.homeo_outline.specs.ObjectPlan.{template_in}
 use Rattle.homeo_forecast.specs.inner.Prepared.{AreIndexes}
 use Rattle.homeo_forecast.proofs.indexes.indexes.Given as goal
 

@@ -9,7 +9,7 @@ use Rattle.homeo_plan.specs.Treaty.{bound_at}
 use Rattle.homeo_plan.specs.declared.templates.Clause.{Clause}
 use Rattle.homeo_config.proofs.Splitting.{slack_as, slack_is}
 use Rattle.homeo_follow.specs.Key.{definitions}
-use Rattle.homeo_follow.specs.ObjectPlan.{template_in, config_or}
+use Rattle.homeo_outline.specs.ObjectPlan.{template_in, config_or}
 use Rattle.homeo_site.proofs.OwnTerms.{even_there}
 use Rattle.homeo_site.proofs.own_treaty.own_bound.Goals as goal
 

@@ -5,7 +5,7 @@ use Rattle.std.proofs.lemmas.List.{take_all}
 use Rattle.homeo_syntax.specs.Listed.{Listed}
 use Rattle.homeo_plan.specs.Template.{Clause}
 use Rattle.homeo_plan.specs.declared.templates.Clause as code
-use Rattle.homeo_follow.specs.ObjectPlan.{template_in, config_in}
+use Rattle.homeo_outline.specs.ObjectPlan.{template_in, config_in}
 use Rattle.homeo_site.specs.inner.Parts.{own_bounds}
 use Rattle.homeo_site.proofs.OwnChecks.{template_count}
 use Rattle.homeo_site.proofs.OwnTerms.{bound_pushed}

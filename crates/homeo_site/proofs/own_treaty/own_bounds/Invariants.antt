@@ -1,5 +1,5 @@
 use Rattle.std.proofs.Common.{◌≡◌, take}
-use Rattle.homeo_follow.specs.ObjectPlan.{template_in, config_in}
+use Rattle.homeo_outline.specs.ObjectPlan.{template_in, config_in}
 use Rattle.homeo_site.specs.inner.Parts.{own_bounds}
 use Rattle.homeo_site.proofs.own_treaty.own_bounds.Given as goal
 

@@ -2,7 +2,7 @@
 use Rattle.std.proofs.Common.{◌≡◌, map, sym, ap, ◌∙◌, subst}
 use Rattle.homeo_syntax.specs.LowView.{low_commands, plain_lcommand}
 use Rattle.homeo_plan.specs.Each.{Each}
-use Rattle.homeo_follow.specs.ObjectPlan.{template_in}
+use Rattle.homeo_outline.specs.ObjectPlan.{template_in}
 use Rattle.homeo_effect.specs.Key.{definitions}
 use Rattle.homeo_effect.specs.Indexed.{Indexed}
 use Rattle.homeo_effect.specs.Touched.{written, touched_clauses}

@@ -5,7 +5,7 @@ use Rattle.homeo_syntax.specs.LowView.{low_commands, plain_lcommand}
 use Rattle.homeo_plan.specs.Each.{Each}
 use Rattle.homeo_plan.specs.PlanView.{plain_clause}
 use Rattle.homeo_follow.specs.Key.{definitions as follow_definitions}
-use Rattle.homeo_follow.specs.ObjectPlan.{template_in}
+use Rattle.homeo_outline.specs.ObjectPlan.{template_in}
 use Rattle.homeo_follow.specs.ObjectTemplate.{expanded_clause}
 use Rattle.homeo_effect.specs.Key.{definitions}
 use Rattle.homeo_effect.specs.Indexed.{Indexed}

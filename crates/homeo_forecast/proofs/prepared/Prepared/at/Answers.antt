@@ -6,8 +6,8 @@ use Rattle.homeo_meaning.specs.Acceptance.{IsAccepted}
 use Rattle.homeo_plan.specs.Planned.{template_at}
 use Rattle.homeo_plan.specs.Template.{Template}
 use Rattle.homeo_follow.specs.Key.{definitions}
-use Rattle.homeo_follow.specs.ObjectPlan.{template_in}
-use Rattle.homeo_follow.specs.declared.plan.ObjectPlan.{ObjectPlan}
+use Rattle.homeo_outline.specs.ObjectPlan.{template_in}
+use Rattle.homeo_outline.specs.declared.plan.ObjectPlan.{ObjectPlan}
 use Rattle.homeo_build.proofs.FewFreezes.{object_plan_few}
 use Rattle.homeo_forecast.specs.inner.Prepared.{AreIndexes}
 use Rattle.homeo_forecast.proofs.prepared.Prepared.at.Goals as goal

@@ -6,7 +6,7 @@ use Rattle.homeo_syntax.specs.SourceView.{plain_workload}
 use Rattle.homeo_meaning.specs.Bounds.{IsWithin}
 use Rattle.homeo_meaning.specs.Schema.{schema_of}
 use Rattle.homeo_plan.specs.PlanView.{plain_template}
-use Rattle.homeo_follow.specs.declared.plan.ObjectPlan.{ObjectPlan}
+use Rattle.homeo_outline.specs.declared.plan.ObjectPlan.{ObjectPlan}
 use Rattle.homeo_forecast.specs.View.{plain_stop}
 use Rattle.homeo_forecast.specs.declared.replay.Replay.{Replay}
 use Rattle.homeo_forecast.specs.inner.Raising.{SomeRaised}

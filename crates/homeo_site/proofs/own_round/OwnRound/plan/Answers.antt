@@ -1,6 +1,6 @@
 use Rattle.std.proofs.Common.{sym, subst}
 use Rattle.homeo_syntax.specs.SourceView.{plain_workload}
-use Rattle.homeo_follow.specs.declared.plan.ObjectPlan.{ObjectPlan}
+use Rattle.homeo_outline.specs.declared.plan.ObjectPlan.{ObjectPlan}
 use Rattle.homeo_build.specs.Plan.{IsObjectPlan}
 use Rattle.homeo_site.specs.SiteView.{StartValue}
 use Rattle.homeo_site.proofs.own_round.OwnRound.plan.Goals as goal

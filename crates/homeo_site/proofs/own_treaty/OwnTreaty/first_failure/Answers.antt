@@ -1,7 +1,7 @@
 -- What the site checks of the plan's clauses and freezes fails as the treaty does.
 use Rattle.std.proofs.Common.{◌≡◌, All, ◌+◌, ◌<◌, ◌≤◌, length, is_some, sym, ap, ap₂, ◌∙◌, subst}
 use Rattle.homeo_meaning.specs.Serial.{values_of}
-use Rattle.homeo_follow.specs.declared.plan.ObjectPlan.{ObjectPlan}
+use Rattle.homeo_outline.specs.declared.plan.ObjectPlan.{ObjectPlan}
 use Rattle.homeo_site.specs.TreatyPart.{TreatyPart}
 use Rattle.homeo_site.specs.inner.Failures.{first_of, first_failure, own_failure, own_freeze_failure}
 use Rattle.homeo_site.specs.OwnTreaty.{OwnClause, own_clauses, SumsFit}
