@@ -2,7 +2,7 @@
 use Rattle.std.proofs.Common.{◌≡◌, ℕ, Bool, false, List, get_or, sym, subst, ap, ◌∙◌}
 use Rattle.std.specs.List.Sorted.{IsStrictlySortedBy}
 use Rattle.std.specs.Ordering.{nat_cmp}
-use Rattle.homeo_effect.specs.inner.Uses.{has}
+use Rattle.homeo_outline.specs.Numbers.{has}
 use Rattle.homeo_effect.proofs.RisingNumbers.{numbers_rise}
 use Rattle.homeo_effect.proofs.Marking.{all_read, few_read}
 use Rattle.homeo_effect.proofs.uses.rising.Goals as goal
