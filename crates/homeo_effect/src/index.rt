@@ -6,7 +6,7 @@ ghost use Rattle.homeo_outline.specs.ObjectPlan.{template_in};
 ghost use Rattle.homeo_effect.specs.Touched.{written, WritesOwn, touched_clauses, touched_freezes};
 
 use crate::uses::{written_clauses, written_freezes};
-use homeo_outline::ObjectPlan;
+use homeo_outline::{ObjectPlan, Outline};
 use homeo_syntax::{LCommand, List, Memory};
 use std::alloc::Global;
 use std::marker::Model;
@@ -56,7 +56,7 @@ impl TreatyIndex {
         ensures { IfOk result (λ v. v.items ≡
             touched_clauses (written (low_commands (map plain_lcommand commands.now))) self.now.template) }
     {
-        let outline = &self.plan.outline;
+        let outline: &Outline = &self.plan.outline;
         if self.site >= outline.sites() {
             return Ok(List::new(alloc));
         }

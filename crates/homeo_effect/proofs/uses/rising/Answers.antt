@@ -17,7 +17,7 @@ marked-requires-clause-room c =
     (lent _ _ _ _ c.as_slice-else-len-count-2.ensures.value c.as_slice-else-len-count.ensures.value c.in_ok-marks.ensures.set)
 
 pub returns-in_ok-marks-clause-rising : goal.returns-in_ok-marks-clause-rising
-returns-in_ok-marks-clause-rising c = subst (IsStrictlySortedBy nat_cmp) (sym c.marked.ensures) (numbers_rise (λ mark. mark) 0 _)
+returns-in_ok-marks-clause-rising c = subst (IsStrictlySortedBy nat_cmp) (sym c.marked.ensures) (numbers_rise (λ mark. mark) 0 c.as_slice-else-len-count-2.result.now)
 
 pub returns-in_ok-marks-clause-all : goal.returns-in_ok-marks-clause-all
 returns-in_ok-marks-clause-all c n =
