@@ -1,5 +1,5 @@
 -- One more number.
-use Rattle.std.proofs.Common.{◌≡◌, ℕ, ◌&&◌, Vec, Global, sym, ap, ◌∙◌}
+use Rattle.std.proofs.Common.{ℕ, ◌&&◌, Vec, Global, ap, ◌∙◌}
 use Rattle.std.specs.Prelude.{◌||◌}
 use Rattle.homeo_outline.specs.Numbers.{has}
 use Rattle.homeo_effect.proofs.SiteNumbers.{is_at_site, none_passed, freezes_at_site, freeze_within, is_of_site, is_of_other, number_passed, number_passed_over}

@@ -1,7 +1,6 @@
 -- One more object, and all of them.
-use Rattle.std.proofs.Common.{ℕ, ◌==◌, List, ap, ap₂, ◌∙◌}
+use Rattle.std.proofs.Common.{◌==◌, ap, ◌∙◌}
 use Rattle.std.specs.Prelude.{◌||◌}
-use Rattle.std.specs.List.{list_any}
 use Rattle.std.proofs.lemmas.List.Folds.{list_any-append}
 use Rattle.std.proofs.lemmas.Result.{IfOk-weaker}
 use Rattle.homeo_outline.specs.Numbers.{has, clauses_on}

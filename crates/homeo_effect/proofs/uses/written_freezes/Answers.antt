@@ -1,6 +1,5 @@
 -- One more object, and all of them.
-use Rattle.std.proofs.Common.{ℕ, List, ap, ◌∙◌}
-use Rattle.std.specs.List.{list_any}
+use Rattle.std.proofs.Common.{ap, ◌∙◌}
 use Rattle.std.proofs.lemmas.Result.{IfOk-weaker}
 use Rattle.homeo_outline.specs.Numbers.{has}
 use Rattle.homeo_effect.specs.inner.Uses.{freezes_at}
