@@ -34,7 +34,7 @@ impl TreatyIndex {
     ///
     /// # Errors
     ///
-    /// `Memory` when the plan is shared too often.
+    /// `Memory` when the plan has too many owners.
     pub fn of(plan: &Arc<ObjectPlan, Global>, site: u32) -> Result<TreatyIndex, Memory>
         ensures site { IfOk result (λ x. x.site ≡ site) }
         ensures template { IfOk result (λ x. x.template ≡ template_in plan.now.value) }
