@@ -1,3 +1,4 @@
+pub mod Moving
 pub mod Noting
 pub mod Numbers
 pub mod Rebased

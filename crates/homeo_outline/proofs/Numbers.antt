@@ -1,6 +1,7 @@
 -- Which numbers of items that pass a test there are with one more item.
-use Rattle.std.proofs.Common.{◌≡◌, ℕ, suc, ◌==◌, ◌+◌, Bool, true, false, cond, ◌&&◌, List, [], ◌∷◌, ◌++◌, length, refl, ap, ◌∙◌, arith}
+use Rattle.std.proofs.Common.{◌≡◌, ℕ, zero, suc, ◌==◌, ◌+◌, ◌<◌, Bool, true, false, cond, ◌&&◌, List, [], ◌∷◌, ◌++◌, get_or, length, refl, ap, ap₂, ◌∙◌, arith}
 use Rattle.std.specs.Prelude.{◌||◌}
+use Rattle.std.proofs.lemmas.Bool.Decides.{nat_tests}
 use Rattle.std.proofs.lemmas.List.Folds.{list_any-append}
 use Rattle.homeo_outline.specs.Numbers.{has, numbers_where}
 
@@ -38,3 +39,37 @@ has_more test first n xs x =
     ap (has n) (numbers_more test first xs x)
     ∙ list_any-append (λ m. n == m) (numbers_where test first xs) _
     ∙ ap (λ v. has n (numbers_where test first xs) || v) (has_one n (first + length xs) (test x))
+
+-- ---- the number of an item
+none_below : {X : Type 0} (test : X → Bool) (n first : ℕ) (xs : List X) → n < first → has n (numbers_where test first xs) ≡ false
+none_below test n first [] h = refl
+none_below test n first (x ∷ xs) h = go (test x) (none_below test n (suc first) xs (omega (arith, h)))
+  where
+    go : (v : Bool) → has n (numbers_where test (suc first) xs) ≡ false → has n (cond v (first ∷ numbers_where test (suc first) xs) (numbers_where test (suc first) xs)) ≡ false
+    go true later = let apart : (n == first) ≡ false = grind (arith, nat_tests, h) in ap₂ ◌||◌ apart later
+    go false later = later
+
+numbered : {X : Type 0} (test : X → Bool) (first m : ℕ) (xs : List X) (d : X) → m < length xs → has (first + m) (numbers_where test first xs) ≡ test (get_or xs m d)
+numbered test first m [] d h = absurd (omega (arith, h))
+numbered test first zero (x ∷ xs) d h = ap (λ n. has n (numbers_where test first (x ∷ xs))) here ∙ go (test x)
+  where
+    here : first + 0 ≡ first
+    here = omega arith
+
+    go : (v : Bool) → has first (cond v (first ∷ numbers_where test (suc first) xs) (numbers_where test (suc first) xs)) ≡ v
+    go true = let same : (first == first) ≡ true = grind (arith, nat_tests) in ap (λ v. v || has first (numbers_where test (suc first) xs)) same
+    go false = none_below test first (suc first) xs (omega arith)
+numbered test first (suc m) (x ∷ xs) d h = ap (λ n. has n (numbers_where test first (x ∷ xs))) next ∙ go (test x) ∙ numbered test (suc first) m xs d (omega (arith, h))
+  where
+    next : first + suc m ≡ suc first + m
+    next = omega arith
+
+    go : (v : Bool) → has (suc first + m) (cond v (first ∷ numbers_where test (suc first) xs) (numbers_where test (suc first) xs)) ≡ has (suc first + m) (numbers_where test (suc first) xs)
+    go true =
+        let apart : (suc first + m == first) ≡ false = grind (arith, nat_tests) in
+        ap (λ v. v || has (suc first + m) (numbers_where test (suc first) xs)) apart
+    go false = refl
+
+-- an item's number is there where it passes the test
+pub has_number : {X : Type 0} (test : X → Bool) (m : ℕ) (xs : List X) (d : X) → m < length xs → has m (numbers_where test 0 xs) ≡ test (get_or xs m d)
+has_number test m xs d h = let e : m ≡ 0 + m = omega arith in ap (λ n. has n (numbers_where test 0 xs)) e ∙ numbered test 0 m xs d h

@@ -1,5 +1,5 @@
 -- Clauses with terms and slacks, one after another.
-use Rattle.std.proofs.Common.{◌≡◌, ℕ, ◌+◌, ◌<◌, List, [], ◌∷◌, ◌++◌, map, take, get_or, length, ℤ, pos, neg_ℤ, ◌+ℤ◌, refl, sym, ap, ap₂, ◌∙◌, arith, length-take}
+use Rattle.std.proofs.Common.{◌≡◌, ℕ, suc, ◌+◌, ◌<◌, List, [], ◌∷◌, ◌++◌, map, take, get_or, length, ℤ, pos, neg_ℤ, ◌+ℤ◌, refl, sym, ap, ap₂, ◌∙◌, arith, length-take}
 use Rattle.std.specs.Prelude.{slice_index_or}
 use Rattle.std.proofs.lemmas.List.{map-append, length-map, take_more}
 use Rattle.homeo_plan.specs.declared.forms.Term.{Term}
@@ -11,6 +11,7 @@ use Rattle.homeo_follow.specs.Key.{definitions as follow_definitions}
 use Rattle.homeo_follow.specs.Rebased.{gained, rebased_clause}
 use Rattle.homeo_outline.specs.Key.{definitions}
 use Rattle.homeo_outline.specs.ObjectPlan.{clauses_with}
+use Rattle.homeo_outline.specs.inner.Moved.{slack_at, moved_slack}
 
 -- ---- one more clause
 pub clauses_more :
@@ -21,16 +22,6 @@ clauses_more [] [] ts = refl
 clauses_more [] (s ∷ ss) ts = refl
 clauses_more (us ∷ tss) [] ts = ap (λ cs. record { terms = us; slack = pos 0 } ∷ cs) (clauses_more tss [] ts)
 clauses_more (us ∷ tss) (s ∷ ss) ts = ap (λ cs. record { terms = us; slack = s } ∷ cs) (clauses_more tss ss ts)
-
--- with a slack more
-pub slacks_more :
-    (tss : List (List Term)) (ss : List ℤ) (ts : List Term) (s : ℤ) → length tss ≡ length ss →
-    clauses_with (tss ++ ts ∷ []) (ss ++ s ∷ []) ≡ clauses_with tss ss ++ record { terms = ts; slack = s } ∷ []
-unfolding definitions
-slacks_more [] [] ts s e = refl
-slacks_more [] (r ∷ ss) ts s e = absurd (omega (arith, e))
-slacks_more (us ∷ tss) [] ts s e = absurd (omega (arith, e))
-slacks_more (us ∷ tss) (r ∷ ss) ts s e = ap (λ cs. record { terms = us; slack = r } ∷ cs) (slacks_more tss ss ts s (omega (arith, e)))
 
 -- ---- lists that are read item by item
 module _ {X : Type 0} (f : X → List Term) (xs : List X) (k : ℕ) (d : X) (lt : k < length xs) where
@@ -49,20 +40,31 @@ module _ {X : Type 0} (f : X → List Term) (xs : List X) (k : ℕ) (d : X) (lt 
       (is ∙ ap (λ n. record { terms = f (get_or xs k d); slack = slice_index_or ss n (pos 0) }) (sym counted))
       ∙ sym (clauses_more (map f (take k xs)) ss (f (get_or xs k d))) ∙ ap (λ tss. clauses_with tss ss) (sym next)
 
-  -- a slack is rebased
-  pub slack_moved :
-      (g : ℕ → ℤ) (ss made : List ℤ) (s : ℤ) → length made ≡ k → clauses_with (map f (take k xs)) made ≡ map (rebased_clause g) (clauses_with (map f (take k xs)) ss) →
-      s ≡ slice_index_or ss k (pos 0) +ℤ neg_ℤ (gained g (f (get_or xs k d))) →
-      clauses_with (map f (take (k + 1) xs)) (made ++ s ∷ []) ≡ map (rebased_clause g) (clauses_with (map f (take (k + 1) xs)) ss)
-  unfolding follow_definitions
-  slack_moved g ss made s long so_far is =
-      let ts = f (get_or xs k d) in
-      ap (λ tss. clauses_with tss (made ++ s ∷ [])) next
-      ∙ slacks_more (map f (take k xs)) made ts s (counted ∙ sym long)
-      ∙ ap₂ (λ (cs : List Clause) r. cs ++ record { terms = ts; slack = r } ∷ []) so_far
-      (is ∙ ap (λ n. slice_index_or ss n (pos 0) +ℤ neg_ℤ (gained g ts)) (sym counted))
-      ∙ sym (ap (map (rebased_clause g)) (ap (λ tss. clauses_with tss ss) next ∙ clauses_more (map f (take k xs)) ss ts)
-      ∙ map-append (rebased_clause g) (clauses_with (map f (take k xs)) ss) _)
+-- ---- slacks that move
+abbrev rest : List ℤ → List ℤ
+rest [] = []
+rest (s ∷ ss) = ss
+
+rest_at : (ss : List ℤ) (n : ℕ) → slack_at (rest ss) n ≡ slack_at ss (suc n)
+rest_at [] n = refl
+rest_at (s ∷ ss) n = refl
+
+first_clause : (ts : List Term) (tss : List (List Term)) (ss : List ℤ) → clauses_with (ts ∷ tss) ss ≡ record { terms = ts; slack = slack_at ss 0 } ∷ clauses_with tss (rest ss)
+unfolding definitions
+first_clause ts tss [] = refl
+first_clause ts tss (s ∷ ss) = refl
+
+pub clauses_moved :
+    (g : ℕ → ℤ) (tss : List (List Term)) (ss made : List ℤ) → ((n : ℕ) → n < length tss → slack_at made n ≡ moved_slack g tss ss n) →
+    clauses_with tss made ≡ map (rebased_clause g) (clauses_with tss ss)
+unfolding definitions follow_definitions
+clauses_moved g [] ss made h = refl
+clauses_moved g (ts ∷ tss) ss made h =
+    first_clause ts tss made
+    ∙ ap₂ (λ s cs. record { terms = ts; slack = s } ∷ cs) (h 0 (omega arith))
+    (clauses_moved g tss (rest ss) (rest made)
+    (λ n l. rest_at made n ∙ h (suc n) (omega (arith, l)) ∙ ap (λ s. s +ℤ neg_ℤ (gained g (slice_index_or tss n []))) (sym (rest_at ss n))))
+    ∙ sym (ap (map (rebased_clause g)) (first_clause ts tss ss))
 
 -- clauses are those with their terms and slacks
 pub clauses_apart : (cs : List code.Clause) → clauses_with (map (λ t. t.items) (map (λ (c : code.Clause). c.terms) cs)) (map (λ (c : code.Clause). c.slack) cs) ≡ map plain_clause cs

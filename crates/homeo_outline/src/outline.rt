@@ -87,6 +87,13 @@ impl Outline {
     pub fn clauses_on(&self, object: u32) -> &[u32]
         ensures { (n : ℕ) → has n result.now ≡ has n (clauses_on object self.now.terms) }
     {
+        self.clauses_at(object as usize)
+    }
+
+    /// The same, where the object's number may be larger than an object's.
+    pub(crate) fn clauses_at(&self, object: usize) -> &[u32]
+        ensures { (n : ℕ) → has n result.now ≡ has n (clauses_on object self.now.terms) }
+    {
         numbers_at(self.clause_uses.as_slice(), object)
     }
 
@@ -94,6 +101,6 @@ impl Outline {
     pub fn freezes_on(&self, object: u32) -> &[u32]
         ensures { (n : ℕ) → has n result.now ≡ has n (freezes_on object (length self.now.terms) self.now.freezes) }
     {
-        numbers_at(self.freeze_uses.as_slice(), object)
+        numbers_at(self.freeze_uses.as_slice(), object as usize)
     }
 }

@@ -1,33 +1,34 @@
 //! What commands bring at one base, seen from another: the same terms, where the same branches are taken, and other constants.
 
-ghost use Rattle.std.specs.Prelude.{◌≡◌, IsTrue, map, ◌+ℤ◌, ◌*ℤ◌, neg_ℤ, IfOk, IfSome};
+ghost use Rattle.std.specs.Prelude.{◌≡◌, ◌==◌, ℕ, IsTrue, if◌then◌else◌, map, ◌+ℤ◌, ◌*ℤ◌, neg_ℤ, IfOk, IfSome};
 ghost use Rattle.homeo_meaning.specs.Serial.{values_of};
 ghost use Rattle.homeo_plan.specs.PlanView.{plain_linear, plain_atom};
 ghost use Rattle.homeo_follow.specs.Brought.{plain_part};
 ghost use Rattle.homeo_follow.specs.Rebased.{gained, rebased_form, rebased_clause, rebased, gains};
+ghost use Rattle.homeo_outline.specs.Numbers.{has, clauses_on};
 ghost use Rattle.homeo_outline.specs.ObjectPlan.{clauses_with};
+ghost use Rattle.homeo_outline.specs.inner.Moved.{slack_at, moved_slack};
 
 use crate::outline::Outline;
 use homeo_follow::PlanPart;
-use homeo_meaning::padded::item_or;
+use homeo_meaning::padded::{item_or, put};
 use homeo_plan::{Atom, Linear, Term};
 use homeo_syntax::{List, Memory};
 use std::alloc::Global;
 
 /// What an object gained from one base to another.
 #[tactic(auto, unfolding(homeo_follow::specs::Key::definitions))]
-fn gain(object: u32, from: &[i64], to: &[i64]) -> i128
+fn gain(object: usize, from: &[i64], to: &[i64]) -> i128
     ensures { result ≡ gains (values_of from.now) (values_of to.now) object }
 {
-    let place = object as usize;
-    i128::from(item_or(to, place, 0)) - i128::from(item_or(from, place, 0))
+    i128::from(item_or(to, object, 0)) - i128::from(item_or(from, object, 0))
 }
 
 /// A term's factor times what its object gained; none where it is out of the range of i128.
 fn gained_by(term: &Term, from: &[i64], to: &[i64]) -> Option<i128>
     ensures { IfSome result (λ n. n ≡ term.now.factor *ℤ gains (values_of from.now) (values_of to.now) term.now.delta.object) }
 {
-    let gain = gain(term.delta.object, from, to);
+    let gain = gain(term.delta.object as usize, from, to);
     if gain == 0 {
         // as most do
         return Some(0);
@@ -110,8 +111,56 @@ fn slack_after(terms: &[Term], slack: i128, from: &[i64], to: &[i64]) -> Option<
     slack.checked_sub(gained)
 }
 
+/// Moves the slack of the clause of this number to another base; not where that is out of the range of i128 on the way, which is told.
+fn move_slack(
+    outline: &Outline,
+    number: usize,
+    slacks: &[i128],
+    from: &[i64],
+    to: &[i64],
+    made: &mut Vec<i128>,
+) -> Result<bool, Memory>
+    ensures { IfOk result (λ moved. IsTrue moved → (n : ℕ) → slack_at made.new.items n ≡
+        if number == n then moved_slack (gains (values_of from.now) (values_of to.now)) outline.now.terms slacks.now n
+        else slack_at made.old.items n) }
+{
+    let terms = outline.terms();
+    if number >= terms.len() {
+        return Ok(false);
+    }
+    let slack = item_or(slacks, number, 0);
+    let Some(moved) = slack_after(terms[number].as_slice(), slack, from, to) else {
+        return Ok(false);
+    };
+    put(made, number, moved, 0)?;
+    Ok(true)
+}
+
+/// Moves the slacks of the clauses that name an object; not those from the first on that is out of the range of i128 on the way,
+/// which is told.
+fn move_slacks(
+    outline: &Outline,
+    object: usize,
+    slacks: &[i128],
+    from: &[i64],
+    to: &[i64],
+    made: &mut Vec<i128>,
+) -> Result<bool, Memory>
+    ensures { IfOk result (λ moved. IsTrue moved → (n : ℕ) → slack_at made.new.items n ≡
+        if has n (clauses_on object outline.now.terms) then moved_slack (gains (values_of from.now) (values_of to.now)) outline.now.terms slacks.now n
+        else slack_at made.old.items n) }
+{
+    for number in outline.clauses_at(object) {
+        if !move_slack(outline, *number as usize, slacks, from, to, made)? {
+            return Ok(false);
+        }
+    }
+    Ok(true)
+}
+
 /// The slacks, at another base, of the clauses of an outline that has these slacks, where what it is of is rebased: each has its slack
-/// less what its terms gained. `None` where a number is out of the range of i128 on the way.
+/// less what its terms gained. `None` where a number is out of the range of i128 on the way. The clauses that name no object with
+/// another value aren't looked at.
 ///
 /// # Errors
 ///
@@ -126,14 +175,13 @@ pub fn rebased_slacks(
     ensures { IfOk result (λ made. IfSome made (λ ss. clauses_with outline.now.terms ss.items ≡
         map (rebased_clause (gains (values_of from.now) (values_of to.now))) (clauses_with outline.now.terms slacks.now))) }
 {
-    let terms = outline.terms();
-    let mut made = Vec::with_capacity(alloc, terms.len())?;
-    for number in 0..terms.len() {
-        let slack = item_or(slacks, number, 0);
-        let Some(moved) = slack_after(terms[number].as_slice(), slack, from, to) else {
+    let mut made = Vec::from_slice(alloc, slacks)?;
+    for object in 0..from.len().max(to.len()) {
+        if gain(object, from, to) != 0
+            && !move_slacks(outline, object, slacks, from, to, &mut made)?
+        {
             return Ok(None);
-        };
-        made.push(moved)?;
+        }
     }
     Ok(Some(List::from_vec(made)))
 }

@@ -71,12 +71,11 @@ pub(crate) fn freeze_uses(
 }
 
 /// Lends the numbers at an object.
-pub(crate) fn numbers_at(uses: &[Vec<u32>], object: u32) -> &[u32]
+pub(crate) fn numbers_at(uses: &[Vec<u32>], object: usize) -> &[u32]
     ensures { result.now ≡ at_object object (map (λ v. v.items) uses.now) }
 {
-    let place = object as usize;
-    if place < uses.len() {
-        uses[place].as_slice()
+    if object < uses.len() {
+        uses[object].as_slice()
     } else {
         &[]
     }

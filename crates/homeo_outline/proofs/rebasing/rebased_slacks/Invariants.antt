@@ -1,15 +1,11 @@
--- The slacks so far are moved.
-use Rattle.std.proofs.Common.{◌≡◌, map, take, length}
+-- The slacks are settled, as far as the objects so far go.
+use Rattle.std.proofs.Common.{ℕ, ◌<◌, length}
 use Rattle.homeo_meaning.specs.Serial.{values_of}
-use Rattle.homeo_follow.specs.Rebased.{rebased_clause, gains}
-use Rattle.homeo_outline.specs.ObjectPlan.{clauses_with}
+use Rattle.homeo_follow.specs.Rebased.{gains}
+use Rattle.homeo_outline.proofs.Moving.{Settled}
 use Rattle.homeo_outline.proofs.rebasing.rebased_slacks.Given as goal
 
-abbrev pub invariant-loop-number : goal.invariant-loop-number
-invariant-loop-number l =
+abbrev pub invariant-loop-object : goal.invariant-loop-object
+invariant-loop-object l =
     let g = gains (values_of l.from) (values_of l.to) in
-    let terms = map (λ t. t.items) (take l.number l.terms) in
-    record {
-      count : length l.made.items ≡ l.number;
-      moved : clauses_with terms l.made.items ≡ map (rebased_clause g) (clauses_with terms l.slacks);
-    }
+    (n : ℕ) → n < length l.outline.terms → Settled g l.outline.terms l.slacks l.object l.made.items n
