@@ -310,6 +310,20 @@ def wide_rounds_text(calls, others):
     return text.replace("client c0", up + ups + "client c0", 1).replace("end\n", f"schedule {order}\nend\n")
 
 
+def printing_text(calls, transactions):
+    """Calls that each close their round, and so many transactions of 10 writes each that print what these change, called at each of 16 sites."""
+    lines = ["workload 1", "sites 16", "object hot in 0..1000000 = 0"] + [f"object o{k} in 0..1000000 = 500000" for k in range(64)]
+    for t in range(transactions):
+        places = [(7 * t + 3 * k) % 64 for k in range(10)]
+        writes = "; ".join(f"write(o{place} = read(o{place}) + {t + k + 1})" for k, place in enumerate(places))
+        lines.append(f"transaction t{t}() {{ {writes}; print(read(hot)) }}")
+    lines.append("transaction up() { write(hot = read(hot) + 1); print(read(hot)) }")
+    ups, others = "; ".join(["up()"] * (calls // 2)), "; ".join(f"t{t}()" for t in range(transactions))
+    lines += [f"client u{site} at {site} {{ {ups} }}" for site in range(2)] + [f"client c{site} at {site} {{ {others} }}" for site in range(16)]
+    order = "u0 u1 " * (calls // 2) + "".join(f"c{site} " * transactions for site in range(16))
+    return "\n".join(lines + [f"schedule {order}", "end", ""])
+
+
 def sum_of(objects):
     """A sum of objects in brackets of 32 each, so that it isn't deep."""
     groups = [objects[at : at + 32] for at in range(0, len(objects), 32)]
