@@ -34,13 +34,17 @@ use Rattle.homeo_follow.specs.Brought.{Brought, brought, plain_part}
 use Rattle.homeo_follow.specs.Expanded.{expanded}
 use Rattle.homeo_follow.specs.Follow.{followed}
 use Rattle.homeo_follow.specs.Named.{named}
+use Rattle.homeo_follow.specs.Rebased.{rebased, gains}
 use Rattle.homeo_follow.specs.declared.part.PlanPart.{PlanPart}
 use Rattle.homeo_follow.proofs.PlannedAtoms.{atoms_are_followed}
+use Rattle.homeo_follow.proofs.Staying.{parts_stay}
+use Rattle.homeo_follow.proofs.Unmoved.{parts_rebased}
 use Rattle.homeo_follow.proofs.Weighed.{accepted_small}
 use Rattle.homeo_build.specs.Key.{definitions}
 use Rattle.homeo_build.specs.Forms.{IsCallForm, AreForms}
 use Rattle.homeo_build.specs.Plan.{AreParts}
 use Rattle.homeo_build.specs.inner.Followed.{IsSmallAlong}
+use Rattle.homeo_build.specs.inner.Rebased.{IsRebased}
 use Rattle.homeo_build.proofs.FormsMade.{placed_map, one_placed}
 use Rattle.homeo_build.proofs.Grown.{same_length, same_place, map_map}
 
@@ -194,6 +198,21 @@ values_same last base (x ∷ xs) h =
     let both = and_parts (same_value last base x) (list_all (same_value last base) xs) h in
     let here : values_of last x ≡ values_of base x = grind (arith, ints, both.0) in
     (here, values_same last base xs both.1)
+
+-- what is kept of a base, where the form names no object that has another value at another one
+module _
+    (last base : List ℤ) (f : Command) (xs : List ℕ) (kept : Brought) (names : xs ≡ named f) (is : kept ≡ brought (values_of last) f)
+    (stays : list_all (same_value last base) xs ≡ true)
+  where
+    agree : Each (λ x. values_of last x ≡ values_of base x) (named f)
+    agree = subst (Each (λ x. values_of last x ≡ values_of base x)) names (values_same last base xs stays)
+
+    pub kept_stays : kept ≡ brought (values_of base) f
+    kept_stays = is ∙ parts_stay (values_of last) (values_of base) f agree
+
+    pub kept_rebased : IsRebased last base kept (brought (values_of base) f)
+    kept_rebased =
+        parts_rebased (values_of last) (values_of base) f agree ∙ ap (rebased (gains (values_of last) (values_of base))) (sym is)
 
 -- ---- a ground call
 module _ (w : s.Workload) (g : Ground) (b : ℕ → ℤ) (site : g.site < sites_of w) where
