@@ -5,7 +5,7 @@ use Rattle.std.specs.List.{list_all}
 use Rattle.std.specs.Ordering.{int_eq}
 use Rattle.std.proofs.lemmas.Bool.{and_parts}
 use Rattle.std.proofs.lemmas.Int.{ints}
-use Rattle.std.proofs.lemmas.List.{take_all}
+use Rattle.std.proofs.lemmas.List.{take_all, length-map}
 use Rattle.std.specs.declared.sync.Arc.{Arc}
 use Rattle.homeo_syntax.specs.Low.{Command}
 use Rattle.homeo_syntax.specs.LowView.{plain_lcommand}
@@ -44,7 +44,7 @@ use Rattle.homeo_build.specs.Key.{definitions}
 use Rattle.homeo_build.specs.Forms.{IsCallForm, AreForms}
 use Rattle.homeo_build.specs.Plan.{AreParts}
 use Rattle.homeo_build.specs.inner.Followed.{IsSmallAlong}
-use Rattle.homeo_build.specs.inner.Rebased.{IsRebased}
+use Rattle.homeo_build.specs.inner.Rebased.{IsRebased, AreRebased}
 use Rattle.homeo_build.proofs.FormsMade.{placed_map, one_placed}
 use Rattle.homeo_build.proofs.Grown.{same_length, same_place, map_map}
 
@@ -158,6 +158,21 @@ pub parts_all :
 parts_all w base fs places parts i forms past so_far =
     are_parts w base (map plain_lcommand fs) places forms parts
     (so_far ∙ ap (map (lent_brought (values_of base))) (take_all i fs past) ∙ sym (map_map plain_lcommand (brought (values_of base)) fs))
+
+-- what is kept of a part, rebased from one base to another
+abbrev pub shared_moved : {Z : Type 0} → List ℤ → List ℤ → Arc PlanPart Z → Brought
+shared_moved last base p = rebased (gains (values_of last) (values_of base)) (shared_part p)
+
+-- there are as many as forms, and they are lent
+pub all_moved :
+    {Z : Type 0} (last base : List ℤ) (fs : List LCommand) (old lent parts : List (Arc PlanPart Z)) (i : ℕ) → lent ≡ old →
+    map shared_part lent ≡ map (brought (values_of last)) (map plain_lcommand fs) → length fs ≤ i →
+    map shared_part parts ≡ map (shared_moved last base) (take i lent) → AreRebased last base old parts
+all_moved last base fs old lent parts i same are past so_far =
+    let count = same_length shared_part (brought (values_of last)) lent (map plain_lcommand fs) are in
+    let end : length lent ≤ i = omega (arith, count, length-map fs plain_lcommand, past) in
+    so_far ∙ ap (map (shared_moved last base)) (take_all i lent end ∙ same)
+    ∙ sym (map_map shared_part (rebased (gains (values_of last) (values_of base))) old)
 
 -- the part of the form at a number, and the objects that the form names
 module _
