@@ -214,20 +214,23 @@ values_same last base (x ∷ xs) h =
     let here : values_of last x ≡ values_of base x = grind (arith, ints, both.0) in
     (here, values_same last base xs both.1)
 
--- what is kept of a base, where the form names no object that has another value at another one
+-- what is kept of a base, where the form names no object that has another value at another one; both are lent
 module _
-    (last base : List ℤ) (f : Command) (xs : List ℕ) (kept : Brought) (names : xs ≡ named f) (is : kept ≡ brought (values_of last) f)
-    (stays : list_all (same_value last base) xs ≡ true)
+    (last base from to : List ℤ) (from_is : from ≡ last) (to_is : to ≡ base) (f : Command) (xs : List ℕ) (kept : Brought)
+    (names : xs ≡ named f) (is : kept ≡ brought (values_of last) f) (stays : list_all (same_value from to) xs ≡ true)
   where
     agree : Each (λ x. values_of last x ≡ values_of base x) (named f)
-    agree = subst (Each (λ x. values_of last x ≡ values_of base x)) names (values_same last base xs stays)
+    agree =
+        subst (Each (λ x. values_of last x ≡ values_of base x)) names
+        (values_same last base xs (sym (λ i. list_all (same_value (from_is i) (to_is i)) xs) ∙ stays))
 
     pub kept_stays : kept ≡ brought (values_of base) f
     kept_stays = is ∙ parts_stay (values_of last) (values_of base) f agree
 
-    pub kept_rebased : IsRebased last base kept (brought (values_of base) f)
+    pub kept_rebased : IsRebased from to kept (brought (values_of base) f)
     kept_rebased =
-        parts_rebased (values_of last) (values_of base) f agree ∙ ap (rebased (gains (values_of last) (values_of base))) (sym is)
+        parts_rebased (values_of last) (values_of base) f agree
+        ∙ sym (λ i. rebased (gains (values_of (from_is i)) (values_of (to_is i))) (is i))
 
 -- ---- a ground call
 module _ (w : s.Workload) (g : Ground) (b : ℕ → ℤ) (site : g.site < sites_of w) where

@@ -22,7 +22,8 @@ use Rattle.homeo_outline.specs.Key.{definitions as outline_definitions}
 use Rattle.homeo_outline.specs.ObjectPlan.{config_or, template_with}
 use Rattle.homeo_outline.specs.Outlined.{Outlined}
 use Rattle.homeo_follow.specs.ObjectTemplate.{expanded_clause, expanded_template}
-use Rattle.homeo_build.specs.inner.SharedTemplate.{SharedTemplate, spread}
+use Rattle.homeo_build.specs.declared.calls.SharedTemplate.{SharedTemplate}
+use Rattle.homeo_build.specs.inner.SharedTemplate.{spread}
 use Rattle.homeo_build.proofs.ByObjects.{small_slacks}
 
 -- ---- the template
