@@ -22,33 +22,6 @@ use homeo_template::object_clauses;
 use std::alloc::Global;
 use std::sync::Arc;
 
-/// A template over whole objects: an outline, which plans share, and the slacks of its clauses.
-#[derive(Drop)]
-pub(crate) struct SharedTemplate {
-    pub(crate) outline: Arc<Outline>,
-    pub(crate) slacks: List<i128>,
-}
-
-/// That of what the forms bring at a base, with an outline of its own.
-pub(crate) fn template_of_parts(
-    alloc: Global,
-    c: &Compiled,
-    base: &Database,
-    parts: &[Arc<PlanPart>],
-    sites: u32,
-) -> Result<SharedTemplate, Memory>
-    requires accepted { IsAccepted (plain_workload c.now) }
-    requires within { IsWithin (schema_of (plain_workload c.now)) base.now.items }
-    requires parts { AreParts (plain_workload c.now) base.now.items parts.now }
-    requires sites { sites ≡ sites_of (plain_workload c.now) }
-    ensures { IfOk result (IsTemplateAt (plain_workload c.now) base.now.items) }
-{
-    let template = object_template(alloc, c, base, parts, sites)?;
-    let (outline, slacks) = outlined(alloc, template)?;
-    let outline = Arc::new(alloc, outline)?;
-    Ok(SharedTemplate { outline, slacks })
-}
-
 /// The template, over whole objects, of what the ground calls ask and need at a base. Calls of one form ask the same, and need the
 /// same objects of other sites.
 pub(crate) fn object_template(
@@ -79,4 +52,31 @@ pub(crate) fn object_template(
         clauses,
         freezes: List::from_vec(freezes),
     })
+}
+
+/// A template over whole objects, as an outline that plans share and the slacks of its clauses.
+#[derive(Drop)]
+pub(crate) struct SharedTemplate {
+    pub(crate) outline: Arc<Outline>,
+    pub(crate) slacks: List<i128>,
+}
+
+/// The template of what the ground calls ask and need at a base, with an outline of its own.
+pub(crate) fn template_of_parts(
+    alloc: Global,
+    c: &Compiled,
+    base: &Database,
+    parts: &[Arc<PlanPart>],
+    sites: u32,
+) -> Result<SharedTemplate, Memory>
+    requires accepted { IsAccepted (plain_workload c.now) }
+    requires within { IsWithin (schema_of (plain_workload c.now)) base.now.items }
+    requires parts { AreParts (plain_workload c.now) base.now.items parts.now }
+    requires sites { sites ≡ sites_of (plain_workload c.now) }
+    ensures { IfOk result (IsTemplateAt (plain_workload c.now) base.now.items) }
+{
+    let template = object_template(alloc, c, base, parts, sites)?;
+    let (outline, slacks) = outlined(alloc, template)?;
+    let outline = Arc::new(alloc, outline)?;
+    Ok(SharedTemplate { outline, slacks })
 }

@@ -26,6 +26,15 @@ use homeo_syntax::{LCommand, List, Memory};
 use std::alloc::Global;
 use std::sync::Arc;
 
+/// What the L forms bring at a base, and how that stands to what they brought to a plan of another.
+#[derive(Drop)]
+pub(crate) struct PartsAfter {
+    /// What each brings, in the order of the forms.
+    pub(crate) parts: List<Arc<PlanPart>>,
+    /// It is known that each brings what it brought to that plan, rebased.
+    pub(crate) are_rebased: bool,
+}
+
 /// What each L form brings at a base, in the order of the forms.
 pub(crate) fn parts_at(
     alloc: Global,
@@ -43,18 +52,9 @@ pub(crate) fn parts_at(
     Ok(parts)
 }
 
-/// What the L forms bring at a base, made from what they brought to a plan of another.
-#[derive(Drop)]
-pub(crate) struct PartsAfter {
-    /// What each brings, in the order of the forms.
-    pub(crate) parts: List<Arc<PlanPart>>,
-    /// Whether it is known that each brings what it brought to that plan, rebased.
-    pub(crate) are_rebased: bool,
-}
-
 /// The same, where there is a plan at another base: the part of a form stays, shared with that plan, where no object that the form
-/// names has another value, and so it is rebased. One that is made anew is compared with the one that is kept, up to the first that
-/// isn't rebased.
+/// names has another value, and is rebased by that. Those that are made anew are compared with the ones that are kept, up to the
+/// first that isn't rebased.
 pub(crate) fn parts_after(
     alloc: Global,
     c: &Compiled,
@@ -103,7 +103,7 @@ fn part_after(
     part_at(alloc, form, base)
 }
 
-/// Whether what an L form brings at a base is known to be what is kept, rebased. What stays is, and isn't compared.
+/// Whether what an L form brings at a base is found to be what is kept of it, rebased. What stays is so, and isn't compared.
 fn is_rebased_part(kept: &PlanPart, part: &PlanPart, stays: bool, from: &[i64], to: &[i64]) -> bool
     requires { IsTrue stays → IsRebased from.now to.now (plain_part kept.now) (plain_part part.now) }
     ensures { IsTrue result → IsRebased from.now to.now (plain_part kept.now) (plain_part part.now) }
