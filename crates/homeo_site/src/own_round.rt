@@ -76,7 +76,7 @@ impl OwnParts {
         }) }
         ensures calls { (base : List ℤ) → IfOk result (λ o. AreOwnCalls (plain_workload compiled.now) base o.calls) }
     {
-        let treaty = OwnTreaty::of(alloc, plan, site)?;
+        let treaty = OwnTreaty::of(plan, site)?;
         let calls = OwnCalls::new(alloc, compiled)?;
         Ok(OwnParts {
             treaty: Arc::new(alloc, treaty)?,

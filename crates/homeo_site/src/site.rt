@@ -131,9 +131,8 @@ impl Site {
     /// touches, both made at the first attempt of its ground call in the round; and the site's part of the treaty. The call must be one
     /// of a client of this site.
     ///
-    /// The first room in a round makes the site's part of the treaty, in about the time and the memory of the plan's length: of
-    /// each clause the site's bound, and for each of the site's deltas which clauses and freezes stand on it; and a place for each
-    /// ground call.
+    /// The first room in a round makes the site's part of the treaty, in no time and no memory but its shares of the plan, and a place
+    /// for each ground call.
     ///
     /// # Errors
     ///
