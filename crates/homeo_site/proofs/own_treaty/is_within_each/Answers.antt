@@ -1,5 +1,5 @@
 -- An even split has room at each site for what all may have.
-use Rattle.std.proofs.Common.{◌≡◌, ◌*ℤ◌, ◌≤ℤ◌, ◌∙◌, pos, sym, ap, subst, SFits, to_z, of_z, rules}
+use Rattle.std.proofs.Common.{◌≡◌, ◌*ℤ◌, ◌≤ℤ◌, ◌∙◌, pos, ap, subst, SFits, to_z, of_z, rules}
 use mir.Syntax.{w128}
 use Rattle.std.proofs.lemmas.Int.{to_z-of_z}
 use Rattle.homeo_outline.specs.Outlined.{Outlined}
@@ -16,5 +16,5 @@ returns-then-is_none c site there all =
     let room =
     subst (λ k. (c.args.sum *ℤ pos k) ≤ℤ to_z w128 (of_z w128 c.slack_of.result)) sites
     (subst (λ z. (z *ℤ pos c.sites.result) ≤ℤ to_z w128 (of_z w128 c.slack_of.result)) sum (c.may_all_have.ensures all)) in
-    within_each p c.args.clause c.requires.clause (none_given p.bounds (sym c.if-is_none.ensures)) c.requires.slack site there c.args.sum
+    within_each p c.args.clause c.requires.clause (none_given p.bounds c.if-is_none.ensures) c.requires.slack site there c.args.sum
     (subst (λ z. (c.args.sum *ℤ pos p.outline.value.sites) ≤ℤ z) slack room)
