@@ -1,5 +1,5 @@
 -- What a site checks of a plan's clauses is what the treaty says of its deltas.
-use Rattle.std.proofs.Common.{◌≡◌, ℕ, ◌+◌, ◌<◌, ◌≤◌, List, [], map, length, get_or, ℤ, pos, ◌≤ℤ◌, int_le, All, true, false, cond, Option, Some, None, is_some, refl, sym, ap, ap₂, ◌∙◌, subst, arith}
+use Rattle.std.proofs.Common.{◌≡◌, ℕ, ◌+◌, ◌<◌, ◌≤◌, List, [], map, length, get_or, ℤ, pos, ◌≤ℤ◌, int_le, All, true, false, cond, Option, Some, None, is_some, refl, sym, ap, ◌∙◌, subst, arith}
 use Rattle.std.proofs.lemmas.Int.{ints}
 use Rattle.std.proofs.lemmas.List.{length-map, get_or-map}
 use Rattle.homeo_syntax.specs.Listed.{Listed}

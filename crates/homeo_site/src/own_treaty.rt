@@ -13,8 +13,8 @@ ghost use Rattle.homeo_site.specs.OwnTreaty.{own_sum, SumsFit, own_clauses};
 
 use homeo_config::even_bound;
 use homeo_effect::TreatyIndex;
-use homeo_outline::ObjectPlan;
 use homeo_meaning::padded::item_or;
+use homeo_outline::ObjectPlan;
 use homeo_plan::{Broken, Config, Delta, Term};
 use homeo_syntax::Memory;
 use std::alloc::Global;
@@ -132,12 +132,7 @@ fn clause_failure(plan: &ObjectPlan, site: u32, number: u32, deltas: &[i64]) -> 
 }
 
 /// The first that fails of the clauses of these numbers in a plan, at a site with these deltas.
-fn first_clause(
-    plan: &ObjectPlan,
-    site: u32,
-    numbers: &[u32],
-    deltas: &[i64],
-) -> Option<Broken>
+fn first_clause(plan: &ObjectPlan, site: u32, numbers: &[u32], deltas: &[i64]) -> Option<Broken>
     requires keeps { CanKeep plan.now site }
     requires numbers { All (λ n. n < length (template_in plan.now).clauses) numbers.now }
     requires fit { All (λ c. SumsFit c.terms (values_of deltas.now))

@@ -1,5 +1,5 @@
 -- An even split has room at each site for what all may have.
-use Rattle.std.proofs.Common.{◌≡◌, ◌*ℤ◌, ◌≤ℤ◌, ◌∙◌, pos, ap, subst, SFits, to_z, of_z, rules}
+use Rattle.std.proofs.Common.{◌*ℤ◌, ◌≤ℤ◌, ◌∙◌, pos, ap, subst, SFits, to_z, of_z, rules}
 use mir.Syntax.{w128}
 use Rattle.std.proofs.lemmas.Int.{to_z-of_z}
 use Rattle.homeo_outline.specs.Outlined.{Outlined}

@@ -1,5 +1,5 @@
 -- Without bounds they are even; else they are the given ones.
-use Rattle.std.proofs.Common.{◌≡◌, ◌<◌, ◌≤ℤ◌, ◌∙◌, [], get_or, pos, sym, ap, ap₂, subst, SFits, to_z, of_z, rules}
+use Rattle.std.proofs.Common.{◌<◌, ◌≤ℤ◌, ◌∙◌, [], get_or, pos, sym, ap, ap₂, subst, SFits, rules}
 use mir.Syntax.{w128}
 use Rattle.std.specs.Prelude.{replicate}
 use Rattle.std.proofs.lemmas.Int.{to_z-of_z}
