@@ -99,7 +99,7 @@ module _ (k : ℕ) (tss : List (List Term)) (ss : List ℤ) where
         ∙ ap (λ ts. record { terms = ts; bound = bound_at (get_or bs n []) i })
         (ap (λ (c : Clause). own_terms i c.terms) expanded_at ∙ own_all k i less (get_or tss n []))
 
--- ---- the clauses of a plan
+-- ---- the clauses of a plan, with bounds where some are given
 pub none_given : (given : Option code.Config) → is_some given ≡ false → given ≡ None
 none_given None e = refl
 none_given (Some c) e = cc

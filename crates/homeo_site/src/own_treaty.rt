@@ -63,8 +63,8 @@ fn may_all_have(sites: u32, sum: i128, slack: i128) -> bool
     }
 }
 
-/// Whether a sum is at most the bound of each site in a clause of a plan, where this shows without a division: no is not told from
-/// unknown.
+/// Whether it shows without a division that a sum is at most the bound of each site in a clause of a plan. Where it doesn't, the sum
+/// may still be.
 fn is_within_each(plan: &ObjectPlan, clause: usize, sum: i128) -> bool
     requires slack { HaveSlack (template_with plan.now.outline.value plan.now.slacks.items).clauses }
     requires clause { clause < length (template_in plan.now).clauses }
