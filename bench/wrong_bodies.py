@@ -31,6 +31,7 @@ INNER = {
     "homeo_size": [],
     "homeo_desugar": [],
     "homeo_split": [],
+    "homeo_outline": [],
     "homeo_delta": [],
     "homeo_joint": [],
     "homeo_substitution": ["write_is_not_put_in"],

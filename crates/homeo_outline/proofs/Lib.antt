@@ -1,3 +1,4 @@
 pub mod Noting
 pub mod Numbers
 pub mod Rebased
+pub mod Slacks

@@ -5,10 +5,9 @@ use Rattle.std.proofs.lemmas.Bool.Decides.{nat_tests}
 use Rattle.std.proofs.lemmas.List.{map-set, map-append, get_or-map, length-map, take_more}
 use Rattle.std.proofs.lemmas.List.Folds.{list_any-append, list_any_more}
 use Rattle.homeo_meaning.proofs.AbsentItems.{padded_more, padded_set}
-use Rattle.homeo_plan.specs.declared.forms.Delta.{Delta}
 use Rattle.homeo_plan.specs.declared.forms.Term.{Term}
 use Rattle.homeo_outline.specs.Numbers.{has, names_object, numbers_where}
-use Rattle.homeo_outline.specs.inner.Uses.{at_object, KeepsClauses, KeepsFreezes}
+use Rattle.homeo_outline.specs.inner.Uses.{at_object}
 use Rattle.homeo_outline.proofs.Numbers.{has_more}
 
 -- ---- one object's numbers
@@ -42,7 +41,7 @@ named_more x ts k t d h p =
     list_any_more (λ (u : Term). u.delta.object == x) ts k d h ∙ ap (λ (u : Term). names_object x (take k ts) || (u.delta.object == x)) (sym p)
 
 -- what is put at an object
-object_noted :
+pub object_noted :
     (object number x n : ℕ) (before after : List ℕ) → after ≡ cond (object == x) (before ++ number ∷ []) before →
     has n after ≡ (has n before || ((object == x) && (n == number)))
 object_noted object number x n before after put = ap (has n) put ∙ go (object == x)
@@ -75,30 +74,20 @@ pub terms_none : (b e : Bool) → b ≡ (b || (false && e))
 terms_none b e = sym (or_false b)
 
 -- ---- one more item
-module _ {X Y : Type 0} (f : X → Y) (test : ℕ → Y → Bool) (first : ℕ) (xs : List X) (k : ℕ) (x d : X) (lt : k < length xs) (p : x ≡ get_or xs k d)
-    (number : ℕ) (is : number ≡ first + k) (before after : List (List ℕ))
-  where
-    -- at each object stand the numbers of the items that pass its test
-    Keeps : List Y → List (List ℕ) → Type 0
-    Keeps ys uses = (o n : ℕ) → has n (at_object o uses) ≡ has n (numbers_where (test o) first ys)
+-- at each object stand the numbers, from first on, of the items that pass its test
+abbrev pub Keeps : {X : Type 0} → (ℕ → X → Bool) → ℕ → List X → List (List ℕ) → Type 0
+Keeps test first xs uses = (o n : ℕ) → has n (at_object o uses) ≡ has n (numbers_where (test o) first xs)
 
-    pub item_kept :
-        Keeps (map f (take k xs)) before →
-        ((o n : ℕ) → has n (at_object o after) ≡ (has n (at_object o before) || (test o (f x) && (n == number)))) →
-        Keeps (map f (take (k + 1) xs)) after
-    item_kept keeps h =
-        subst (λ ys. Keeps ys after) (sym taken)
-        (λ o n. h o n ∙ ap₂ (λ v m. v || (test o (f x) && (n == m))) (keeps o n) counted ∙ sym (has_more (test o) first n (map f (take k xs)) (f x)))
-      where
-        taken : map f (take (k + 1) xs) ≡ map f (take k xs) ++ f x ∷ []
-        taken = ap (map f) (take_more xs k d lt ∙ ap (λ y. take k xs ++ y ∷ []) (sym p)) ∙ map-append f (take k xs) (x ∷ [])
+module _ {X : Type 0} (test : ℕ → X → Bool) (first : ℕ) (xs : List X) (x : X) (number : ℕ) (before after : List (List ℕ)) where
+  pub item_kept :
+      number ≡ first + length xs → Keeps test first xs before →
+      ((o n : ℕ) → has n (at_object o after) ≡ (has n (at_object o before) || (test o x && (n == number)))) →
+      Keeps test first (xs ++ x ∷ []) after
+  item_kept counted keeps h o n = h o n ∙ ap₂ (λ v m. v || (test o x && (n == m))) (keeps o n) counted ∙ sym (has_more (test o) first n xs x)
 
-        counted : number ≡ first + length (map f (take k xs))
-        counted =
-            let long : length (take k xs) ≡ k = grind (arith, length-take) in
-            is ∙ ap (λ m. first + m) (sym (length-map (take k xs) f ∙ long))
+-- the items so far, with the next one
+pub next_is : {X : Type 0} (xs : List X) (k : ℕ) (x d : X) → k < length xs → x ≡ get_or xs k d → take k xs ++ x ∷ [] ≡ take (k + 1) xs
+next_is xs k x d lt p = ap (λ y. take k xs ++ y ∷ []) p ∙ sym (take_more xs k d lt)
 
-pub freeze_noted :
-    (d : Delta) (number x n : ℕ) (before after : List ℕ) → after ≡ cond (d.object == x) (before ++ number ∷ []) before →
-    has n after ≡ (has n before || ((d.object == x) && (n == number)))
-freeze_noted d number x n before after put = object_noted d.object number x n before after put
+pub so_many : {X : Type 0} (xs : List X) (k : ℕ) → k < length xs → length (take k xs) ≡ k
+so_many xs k lt = grind (arith, length-take)

@@ -2,6 +2,7 @@
 
 ghost use Rattle.std.specs.Prelude.{◌≡◌, ◌+◌, ◌<◌, ◌^◌, ◌++◌, length, map, IfOk, OnOk};
 ghost use Rattle.homeo_plan.specs.PlanView.{plain_clause, plain_template};
+ghost use Rattle.homeo_plan.specs.declared.templates.Clause.{Clause};
 ghost use Rattle.homeo_outline.specs.ObjectPlan.{clauses_with, template_with};
 
 use crate::outline::Outline;
@@ -44,12 +45,25 @@ pub fn outlined(alloc: Global, t: Template) -> Result<(Outline, List<i128>), Mem
     let count = t.clauses.as_slice().len();
     let mut terms = Vec::with_capacity(alloc, count)?;
     let mut slacks = Vec::with_capacity(alloc, count)?;
-    for clause in t.clauses.into_vec() {
+    move_parts(t.clauses, &mut terms, &mut slacks)?;
+    let outline = Outline::new(alloc, t.sites, List::from_vec(terms), t.freezes)?;
+    Ok((outline, List::from_vec(slacks)))
+}
+
+/// Puts the terms of clauses behind others, and their slacks.
+fn move_parts(
+    clauses: List<Clause>,
+    terms: &mut Vec<List<Term>>,
+    slacks: &mut Vec<i128>,
+) -> Result<(), Memory>
+    ensures terms { OnOk result (terms.new.items ≡ terms.old.items ++ map (λ (c : Clause). c.terms) clauses.items) }
+    ensures slacks { OnOk result (slacks.new.items ≡ slacks.old.items ++ map (λ (c : Clause). c.slack) clauses.items) }
+{
+    for clause in clauses.into_vec() {
         terms.push(clause.terms)?;
         slacks.push(clause.slack)?;
     }
-    let outline = Outline::new(alloc, t.sites, List::from_vec(terms), t.freezes)?;
-    Ok((outline, List::from_vec(slacks)))
+    Ok(())
 }
 
 /// The template over whole objects that has an outline and slacks, one for each clause. It takes time and memory linear in the template.
