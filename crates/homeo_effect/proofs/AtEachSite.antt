@@ -1,5 +1,5 @@
--- An index over clauses over whole objects is one over the deltas of each site.
-use Rattle.std.proofs.Common.{◌≡◌, ℕ, zero, suc, ◌==◌, ◌+◌, ◌<◌, ◌≤◌, Bool, true, false, cond, ◌&&◌, List, [], ◌∷◌, ◌++◌, map, ℤ, refl, sym, ap, ap₂, ◌∙◌, arith}
+-- The clauses over whole objects that name an object are those that have terms on its delta of a site.
+use Rattle.std.proofs.Common.{◌≡◌, ℕ, zero, suc, ◌==◌, ◌+◌, ◌<◌, ◌≤◌, Bool, true, false, cond, ◌&&◌, List, [], ◌∷◌, map, ℤ, refl, sym, ap, ap₂, ◌∙◌, arith}
 use Rattle.std.specs.Prelude.{◌||◌}
 use Rattle.std.proofs.lemmas.Bool.Decides.{nat_tests}
 use Rattle.std.proofs.lemmas.List.Folds.{list_any-append}
@@ -10,9 +10,11 @@ use Rattle.homeo_plan.specs.Template.{Clause}
 use Rattle.homeo_follow.specs.Key.{definitions as follow_definitions}
 use Rattle.homeo_follow.specs.Expanded.{terms_from, expanded_terms}
 use Rattle.homeo_follow.specs.ObjectTemplate.{expanded_clause}
+use Rattle.homeo_outline.specs.Key.{definitions as outline_definitions}
+use Rattle.homeo_outline.specs.Numbers.{names_object, numbers_where}
+use Rattle.homeo_outline.specs.ObjectPlan.{clauses_with}
 use Rattle.homeo_effect.specs.Key.{definitions}
-use Rattle.homeo_effect.specs.Touched.{is_among, are_on, is_touched, numbers_where}
-use Rattle.homeo_effect.specs.inner.Uses.{has, at_object, names_object, KeepsClauses, KeepsObjects}
+use Rattle.homeo_effect.specs.Touched.{is_among, are_on, is_touched}
 
 module _ (x i : ℕ) where
   -- the term at site j
@@ -79,27 +81,17 @@ module _ (x i : ℕ) where
       list_any-append (λ (u : Term). is_among (delta_of x i ∷ []) u.delta) (terms_from 0 k t.delta.object t.factor) (expanded_terms k ts)
       ∙ ap₂ ◌||◌ (before 0 k t.delta.object t.factor (omega (arith, l))) (none_named k l ts)
 
-  numbers_named :
-      (k : ℕ) → i < k → (m : ℕ) (cs : List Clause) →
-      numbers_where (λ (c : Clause). names_object x c.terms) m cs ≡ numbers_where (is_touched (delta_of x i ∷ [])) m (map (expanded_clause k) cs)
+  pub numbers_named :
+      (k : ℕ) → i < k → (m : ℕ) (tss : List (List Term)) (ss : List ℤ) →
+      numbers_where (names_object x) m tss ≡ numbers_where (is_touched (delta_of x i ∷ [])) m (map (expanded_clause k) (clauses_with tss ss))
+  unfolding definitions follow_definitions outline_definitions
+  numbers_named k l m [] ss = refl
+  numbers_named k l m (ts ∷ tss) [] = ap₂ (λ v ns. cond v (m ∷ ns) ns) (named k l ts) (numbers_named k l (suc m) tss [])
+  numbers_named k l m (ts ∷ tss) (s ∷ ss) = ap₂ (λ v ns. cond v (m ∷ ns) ns) (named k l ts) (numbers_named k l (suc m) tss ss)
+
+  -- where there is no such site
+  pub none_touched : (k : ℕ) → k ≤ i → (m : ℕ) (cs : List Clause) → [] ≡ numbers_where (is_touched (delta_of x i ∷ [])) m (map (expanded_clause k) cs)
   unfolding definitions follow_definitions
-  numbers_named k l m [] = refl
-  numbers_named k l m (c ∷ cs) =
-      ap₂ (λ v ns. cond v (m ∷ ns) ns) (named k l c.terms) (numbers_named k l (suc m) cs)
-
-pub keeps_at_site :
-    (k i : ℕ) → i < k → (cs : List Clause) (uses : List (List ℕ)) → KeepsObjects cs uses → KeepsClauses i (map (expanded_clause k) cs) uses
-keeps_at_site k i l cs uses keeps x n = keeps x n ∙ ap (has n) (numbers_named x i k l 0 cs)
-
--- where there is no such site
-none_touched : (x i k : ℕ) → k ≤ i → (n m : ℕ) (cs : List Clause) → false ≡ has n (numbers_where (is_touched (delta_of x i ∷ [])) m (map (expanded_clause k) cs))
-unfolding definitions follow_definitions
-none_touched x i k l n m [] = refl
-none_touched x i k l n m (c ∷ cs) =
-    none_touched x i k l n (suc m) cs
-    ∙ ap (λ v. has n (cond v (m ∷ numbers_where (is_touched (delta_of x i ∷ [])) (suc m) (map (expanded_clause k) cs)) (numbers_where (is_touched (delta_of x i ∷ [])) (suc m) (map (expanded_clause k) cs))))
-    (sym (none_named x i k l c.terms))
-
-pub keeps_none :
-    (k i : ℕ) → k ≤ i → (cs : List Clause) {A : Type 0} (f : A → List ℕ) (uses : List A) → uses ≡ [] → KeepsClauses i (map (expanded_clause k) cs) (map f uses)
-keeps_none k i l cs f uses none x n = ap (λ us. has n (at_object x (map f us))) none ∙ none_touched x i k l n 0 cs
+  none_touched k l m [] = refl
+  none_touched k l m (c ∷ cs) =
+      ap₂ (λ v ns. cond v (m ∷ ns) ns) (sym (none_named k l c.terms)) (none_touched k l (suc m) cs)

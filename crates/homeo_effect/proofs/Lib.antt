@@ -2,7 +2,6 @@ pub mod AtEachSite
 pub mod Counted
 pub mod Equations
 pub mod Fitting
-pub mod Keeping
 pub mod LatestNumbers
 pub mod LiteralSteps
 pub mod Literals
@@ -11,7 +10,6 @@ pub mod Localizing
 pub mod MadeSteps
 pub mod Marking
 pub mod Members
-pub mod Noting
 pub mod NumberedParts
 pub mod NumberedRuns
 pub mod OwnParts
@@ -19,9 +17,11 @@ pub mod OwnWrites
 pub mod ProgramRuns
 pub mod Pushing
 pub mod RisingNumbers
+pub mod SiteNumbers
 pub mod SitedEquations
 pub mod SitedRuns
 pub mod SitedValues
 pub mod StepRuns
 pub mod Touching
 pub mod Untouched
+pub mod WrittenDeltas

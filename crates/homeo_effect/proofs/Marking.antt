@@ -6,8 +6,8 @@ use Rattle.std.proofs.lemmas.Bool.Decides.{nat_tests}
 use Rattle.std.proofs.lemmas.List.{append-nil, append_assoc, length-append, length-take-le, take_more_set, drop_more, drop_all}
 use Rattle.std.proofs.lemmas.Map.Keys.{IsDistinct-from_apart, below_from_sorted}
 use Rattle.std.proofs.lemmas.Map.Made.{length-le_from_is_member}
-use Rattle.homeo_effect.specs.Key.{definitions}
-use Rattle.homeo_effect.specs.inner.Uses.{has, marked_from}
+use Rattle.homeo_outline.specs.Numbers.{has}
+use Rattle.homeo_effect.specs.inner.Uses.{marked_from}
 use Rattle.homeo_effect.proofs.RisingNumbers.{numbers_above, numbers_rise, absent, has_first}
 
 -- ---- one more mark: those before it are read into the first places, those behind it are left
@@ -15,7 +15,6 @@ next_read :
     (marks : List Bool) (i : ℕ) (mark : Bool) → i < length marks → get_or marks i false ≡ mark →
     cond mark (i ∷ marked_from (i + 1) (drop (i + 1) marks)) (marked_from (i + 1) (drop (i + 1) marks))
     ≡ marked_from i (drop i marks)
-unfolding definitions
 next_read marks i mark within is =
     ap (λ n. cond mark (i ∷ marked_from n later) (marked_from n later)) next
     ∙ ap (λ mark. cond mark (i ∷ marked_from (suc i) later) (marked_from (suc i) later)) (sym is)
@@ -57,12 +56,10 @@ module _ (marks : List Bool) (i : ℕ) (within : i < length marks) (numbers : Li
 
 pub no_more :
     (marks : List Bool) (i : ℕ) (before whole : List ℕ) → length marks ≤ i → before ++ marked_from i (drop i marks) ≡ whole → before ≡ whole
-unfolding definitions
 no_more marks i before whole past e = sym (append-nil before) ∙ ap (λ l. before ++ marked_from i l) (sym (drop_all i marks past)) ∙ e
 
 -- ---- all marks
-read_from : (marks : List Bool) (first n : ℕ) → has (first + n) (marked_from first marks) ≡ get_or marks n false
-unfolding definitions
+pub read_from : (marks : List Bool) (first n : ℕ) → has (first + n) (marked_from first marks) ≡ get_or marks n false
 read_from [] first n = refl
 read_from (mark ∷ marks) first zero =
     let here : first + 0 ≡ first = omega arith in

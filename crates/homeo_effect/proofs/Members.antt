@@ -1,10 +1,11 @@
 -- Lists of numbers that have the same members.
-use Rattle.std.proofs.Common.{◌≡◌, ℕ, ◌==◌, Bool, true, false, List, [], ◌∷◌, refl, sym, ap, ◌∙◌, arith}
+use Rattle.std.proofs.Common.{◌≡◌, ℕ, ◌==◌, ◌+◌, ◌<◌, ◌≤◌, Bool, true, false, List, [], ◌∷◌, length, take, get_or, refl, sym, ap, ◌∙◌, arith}
 use Rattle.std.specs.Prelude.{◌||◌}
 use Rattle.std.specs.List.{list_any}
 use Rattle.std.proofs.lemmas.Bool.Decides.{nat_tests}
-use Rattle.homeo_plan.specs.declared.forms.Delta.{Delta}
-use Rattle.homeo_effect.specs.inner.Uses.{has, at_object, is_at, objects_of}
+use Rattle.std.proofs.lemmas.List.Folds.{list_any_more}
+use Rattle.homeo_outline.specs.Numbers.{has}
+use Rattle.homeo_effect.proofs.WrittenDeltas.{all_taken}
 
 false_not : {A : Type 0} → false ≡ true → A
 false_not e = let no : ⊥ = cc in absurd no
@@ -47,13 +48,17 @@ member_passes P (y ∷ ys) x h p =
     (λ e. first_holds (P y) (list_any P ys) (sym (ap P (same_number x y e)) ∙ p))
     (λ q. later_holds (P y) (list_any P ys) (member_passes P ys x q p))
 
-pub same_members : (P : ℕ → Bool) (xs ys : List ℕ) → ((x : ℕ) → has x xs ≡ has x ys) → list_any P xs ≡ list_any P ys
+same_members : (P : ℕ → Bool) (xs ys : List ℕ) → ((x : ℕ) → has x xs ≡ has x ys) → list_any P xs ≡ list_any P ys
 same_members P xs ys h =
     same_truth (list_any P xs) (list_any P ys)
     (λ p. let m = passing P xs p in member_passes P ys m.0 (sym (h m.0) ∙ m.1) m.2)
     (λ p. let m = passing P ys p in member_passes P xs m.0 (h m.0 ∙ m.1) m.2)
 
--- the numbers at the objects of deltas
-pub at_objects : (n : ℕ) (ds : List Delta) (uses : List (List ℕ)) → list_any (λ x. has n (at_object x uses)) (objects_of ds) ≡ is_at n ds uses
-at_objects n [] uses = refl
-at_objects n (d ∷ ds) uses = ap (λ (b : Bool). has n (at_object d.object uses) || b) (at_objects n ds uses)
+-- ---- members that are looked up one after another
+module _ (P : ℕ → Bool) (xs : List ℕ) (k : ℕ) where
+  pub one_found : k < length xs → (found : Bool) → found ≡ list_any P (take k xs) → (found || P (get_or xs k 0)) ≡ list_any P (take (k + 1) xs)
+  one_found lt found so_far = ap (λ v. v || P (get_or xs k 0)) so_far ∙ sym (list_any_more P xs k 0 lt)
+
+  pub all_found :
+      length xs ≤ k → (held : List ℕ) → xs ≡ held → (ys : List ℕ) → ((x : ℕ) → has x held ≡ has x ys) → list_any P (take k xs) ≡ list_any P ys
+  all_found past held e ys same = ap (list_any P) (all_taken xs k past ∙ e) ∙ same_members P held ys same

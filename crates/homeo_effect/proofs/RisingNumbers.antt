@@ -1,5 +1,5 @@
 -- Numbers of items that pass tests: which there are, and that they rise.
-use Rattle.std.proofs.Common.{◌≡◌, ℕ, suc, ◌==◌, eqb, ◌+◌, ◌<◌, ◌≤◌, nat_lt, Bool, true, false, cond, ◌&&◌, List, [], ◌∷◌, ◌++◌, length, refl, sym, ap, ◌∙◌, arith}
+use Rattle.std.proofs.Common.{◌≡◌, ℕ, suc, ◌==◌, eqb, ◌<◌, ◌≤◌, nat_lt, Bool, true, false, cond, List, [], ◌∷◌, refl, sym, ap, ◌∙◌, arith}
 use Rattle.std.specs.Prelude.{◌||◌}
 use Rattle.std.specs.List.{AllByRecursion, dedup, dedup_from}
 use Rattle.std.specs.List.Sorted.{IsStrictlySortedBy}
@@ -7,46 +7,7 @@ use Rattle.std.specs.Ordering.{nat_cmp}
 use Rattle.std.specs.declared.cmp.Ordering.TheVariants.{Less, Equal, Greater}
 use Rattle.std.proofs.lemmas.Bool.{false≢true}
 use Rattle.std.proofs.lemmas.Bool.Decides.{nat_tests}
-use Rattle.std.proofs.lemmas.List.Folds.{list_any-append}
-use Rattle.homeo_effect.specs.Key.{definitions}
-use Rattle.homeo_effect.specs.Touched.{numbers_where}
-use Rattle.homeo_effect.specs.inner.Uses.{has}
-
--- ---- one more item
-pub numbers_more :
-    {X : Type 0} (test : X → Bool) (first : ℕ) (xs : List X) (x : X) →
-    numbers_where test first (xs ++ x ∷ []) ≡ numbers_where test first xs ++ cond (test x) ((first + length xs) ∷ []) []
-unfolding definitions
-numbers_more test first [] x = let e : first ≡ first + 0 = omega arith in ap (λ m. cond (test x) (m ∷ []) []) e
-numbers_more test first (y ∷ xs) x =
-    go (test y) (numbers_more test (suc first) xs x ∙ ap (λ m. numbers_where test (suc first) xs ++ cond (test x) (m ∷ []) []) e)
-  where
-    e : suc first + length xs ≡ first + suc (length xs)
-    e = omega arith
-
-    go :
-        (v : Bool) →
-        numbers_where test (suc first) (xs ++ x ∷ []) ≡ numbers_where test (suc first) xs ++ cond (test x) ((first + suc (length xs)) ∷ []) [] →
-        cond v (first ∷ numbers_where test (suc first) (xs ++ x ∷ [])) (numbers_where test (suc first) (xs ++ x ∷ [])) ≡
-        cond v (first ∷ numbers_where test (suc first) xs) (numbers_where test (suc first) xs) ++ cond (test x) ((first + suc (length xs)) ∷ []) []
-    go true h = ap (λ ns. first ∷ ns) h
-    go false h = h
-
-has_one : (n m : ℕ) (v : Bool) → has n (cond v (m ∷ []) []) ≡ (v && (n == m))
-has_one n m true = or_false (n == m)
-  where
-    or_false : (b : Bool) → (b || false) ≡ b
-    or_false true = refl
-    or_false false = refl
-has_one n m false = refl
-
-pub has_more :
-    {X : Type 0} (test : X → Bool) (first n : ℕ) (xs : List X) (x : X) →
-    has n (numbers_where test first (xs ++ x ∷ [])) ≡ (has n (numbers_where test first xs) || (test x && (n == first + length xs)))
-has_more test first n xs x =
-    ap (has n) (numbers_more test first xs x)
-    ∙ list_any-append (λ m. n == m) (numbers_where test first xs) _
-    ∙ ap (λ v. has n (numbers_where test first xs) || v) (has_one n (first + length xs) (test x))
+use Rattle.homeo_outline.specs.Numbers.{has, numbers_where}
 
 -- ---- two tests
 either_test :
@@ -77,14 +38,12 @@ either_test n first p q u v w e ps qs rs h =
 pub has_either :
     {X : Type 0} (p q r : X → Bool) → ((x : X) → r x ≡ (p x || q x)) → (first n : ℕ) (xs : List X) →
     has n (numbers_where r first xs) ≡ (has n (numbers_where p first xs) || has n (numbers_where q first xs))
-unfolding definitions
 has_either p q r e first n [] = refl
 has_either p q r e first n (x ∷ xs) =
     either_test n first (p x) (q x) (p x) (q x) (r x) (e x) (numbers_where p (suc first) xs) (numbers_where q (suc first) xs)
     (numbers_where r (suc first) xs) (has_either p q r e (suc first) n xs)
 
 pub has_none : {X : Type 0} (p : X → Bool) → ((x : X) → p x ≡ false) → (first n : ℕ) (xs : List X) → has n (numbers_where p first xs) ≡ false
-unfolding definitions
 has_none p e first n [] = refl
 has_none p e first n (x ∷ xs) =
     ap (λ v. has n (cond v (first ∷ numbers_where p (suc first) xs) (numbers_where p (suc first) xs))) (e x) ∙ has_none p e (suc first) n xs
@@ -94,7 +53,6 @@ is_less : (m n : ℕ) → m < n → nat_cmp m n ≡ Less
 is_less m n h = let p : nat_lt m n ≡ true = grind (arith, nat_tests) in ap (λ v. cond v Less (cond (m == n) Equal Greater)) p
 
 pub numbers_above : {X : Type 0} (test : X → Bool) (m first : ℕ) (xs : List X) → m < first → AllByRecursion (λ y. nat_cmp m y ≡ Less) (numbers_where test first xs)
-unfolding definitions
 numbers_above test m first [] h = tt
 numbers_above test m first (x ∷ xs) h = go (test x) (numbers_above test m (suc first) xs (omega arith))
   where
@@ -105,7 +63,7 @@ numbers_above test m first (x ∷ xs) h = go (test x) (numbers_above test m (suc
     go false more = more
 
 pub numbers_rise : {X : Type 0} (test : X → Bool) (first : ℕ) (xs : List X) → IsStrictlySortedBy nat_cmp (numbers_where test first xs)
-unfolding definitions IsStrictlySortedBy
+unfolding IsStrictlySortedBy
 numbers_rise test first [] = tt
 numbers_rise test first (x ∷ xs) = go (test x) (numbers_rise test (suc first) xs)
   where

@@ -1,8 +1,7 @@
 -- Commands over whole objects at a site run there as their delta transform does.
-use Rattle.std.proofs.Common.{◌≡◌, ℕ, suc, ◌<◌, ◌==◌, ℤ, pos, ◌+ℤ◌, neg_ℤ, Bool, true, false, cond, ◌&&◌, [], ◌∷◌, refl, sym, ap, ◌∙◌, subst, arith}
+use Rattle.std.proofs.Common.{◌≡◌, ℕ, suc, ◌<◌, ◌==◌, ℤ, pos, ◌+ℤ◌, neg_ℤ, true, false, ◌&&◌, [], ◌∷◌, refl, sym, ap, ◌∙◌, subst, arith}
 use Rattle.std.proofs.lemmas.Bool.{and_parts}
 use Rattle.std.proofs.lemmas.Bool.Decides.{nat_tests}
-use Rattle.homeo_syntax.specs.declared.low.SplitName.{SplitName}
 use Rattle.homeo_syntax.specs.declared.low.SplitName.TheVariants.{Whole, Base, Delta}
 use Rattle.homeo_syntax.specs.Low.{Expr, Exprs, Literal, OfTemp, Read, Sum, Product, Neg, NoExpr, MoreExpr, Command, Commands, Skip, Assign, Write, Print, Seq, If, NoCommand, MoreCommand}
 use Rattle.homeo_meaning.specs.Key.{definitions as meaning_definitions}
@@ -11,18 +10,18 @@ use Rattle.homeo_meaning.specs.Small.{is_small}
 use Rattle.homeo_meaning.specs.Whole.{IsWholeExpr, AreWholeExprs, IsWhole}
 use Rattle.homeo_plan.specs.Key.{definitions as plan_definitions}
 use Rattle.homeo_plan.specs.Needs.{IsStraight}
-use Rattle.homeo_plan.specs.Split.{other_deltas, shift_expr, shift_write, shift, shift_all}
+use Rattle.homeo_plan.specs.Split.{other_deltas, shift_expr, shift, shift_all}
 use Rattle.homeo_plan.proofs.Shift.{shift_follows}
 use Rattle.homeo_follow.specs.Key.{definitions as follow_definitions}
 use Rattle.homeo_follow.specs.Taken.{IsTakenOne, AreTaken}
 use Rattle.homeo_split.specs.Key.{definitions as split_definitions}
-use Rattle.homeo_split.specs.CanExec.{expr_fits, sum_fits, can_exec, can_exec_all}
+use Rattle.homeo_split.specs.CanExec.{expr_fits, can_exec, can_exec_all}
 use Rattle.homeo_effect.specs.Key.{definitions}
 use Rattle.homeo_effect.specs.Counts.{assignment_count, print_count}
 use Rattle.homeo_effect.specs.OwnCommands.{reads_own, read_own, are_own}
 use Rattle.homeo_effect.specs.Touched.{with_delta, written, WritesOwn}
 use Rattle.homeo_effect.specs.inner.Alone.{IsAlone}
-use Rattle.homeo_effect.specs.inner.Sited.{sited_expr, sited_exprs, sited_write, sited_command, sited}
+use Rattle.homeo_effect.specs.inner.Sited.{sited_expr, sited_exprs, sited_command, sited}
 use Rattle.homeo_effect.proofs.Localizing.{both}
 use Rattle.homeo_effect.proofs.SitedValues.{others_nothing, same_value, start_fits, fits_too}
 

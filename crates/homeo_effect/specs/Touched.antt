@@ -1,5 +1,5 @@
 -- What of a template a residual touches: the clauses with a term on a delta that it writes, and the freezes that it writes.
-use Rattle.std.specs.Prelude.{◌≡◌, ℕ, suc, Bool, cond, List, [], ◌∷◌, length}
+use Rattle.std.specs.Prelude.{◌≡◌, ℕ, Bool, List, [], ◌∷◌, length}
 use Rattle.std.specs.List.{list_any}
 use Rattle.homeo_syntax.specs.declared.low.SplitName.{SplitName}
 use Rattle.homeo_syntax.specs.declared.low.SplitName.TheVariants.{Whole, Base, Delta}
@@ -9,6 +9,7 @@ use Rattle.homeo_plan.specs.declared.forms.Term.{Term}
 use Rattle.homeo_plan.specs.Each.{Each}
 use Rattle.homeo_plan.specs.Linear.{delta_of, same_delta}
 use Rattle.homeo_plan.specs.Template.{Clause, Template}
+use Rattle.homeo_outline.specs.Numbers.{numbers_where}
 use Rattle.homeo_effect.specs.Key.{definitions}
 
 -- the delta that a name stands for, in front of others
@@ -34,12 +35,6 @@ WritesOwn i cs = Each (λ d. d.site ≡ i) (written cs)
 abbrev pub is_among : List forms.Delta → forms.Delta → Bool
 unfolding definitions
 is_among ds d = list_any (same_delta d) ds
-
--- the numbers, from n on, of the items that pass a test
-abbrev pub numbers_where : {X : Type 0} → (X → Bool) → ℕ → List X → List ℕ
-unfolding definitions
-numbers_where test n [] = []
-numbers_where test n (x ∷ xs) = cond (test x) (n ∷ numbers_where test (suc n) xs) (numbers_where test (suc n) xs)
 
 -- one of the terms is on one of the deltas
 abbrev pub are_on : List forms.Delta → List Term → Bool

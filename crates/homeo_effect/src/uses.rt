@@ -1,103 +1,17 @@
-//! Numbers by object: where clauses and freezes stand on the deltas of one site.
+//! Numbers of clauses and freezes that are at what commands write.
 
-ghost use Rattle.std.specs.Prelude.{◌≡◌, ◌==◌, ◌+◌, ◌<◌, ◌≤◌, ◌^◌, ◌&&◌, ◌||◌, ◌++◌, ◌∷◌, [], ℕ, false, if◌then◌else◌, All, length, map, option_to_list, slice_index_or, IfOk, OnOk};
+ghost use Rattle.std.specs.Prelude.{◌≡◌, ◌<◌, ◌≤◌, ◌^◌, ◌||◌, ◌++◌, ◌∷◌, [], ℕ, false, All, length, map, option_to_list, slice_index_or, IfOk, OnOk};
 ghost use Rattle.std.specs.Ordering.{nat_cmp};
 ghost use Rattle.std.specs.List.Sorted.{IsStrictlySortedBy};
 ghost use Rattle.homeo_syntax.specs.LowView.{low_commands, plain_lcommand};
-ghost use Rattle.homeo_plan.specs.PlanView.{plain_clause, plain_template};
-ghost use Rattle.homeo_follow.specs.ObjectTemplate.{expanded_template};
+ghost use Rattle.homeo_outline.specs.Numbers.{has};
 ghost use Rattle.homeo_effect.specs.Touched.{with_delta, written};
-ghost use Rattle.homeo_effect.specs.inner.Uses.{has, at_object, is_at, names_object, KeepsClauses, KeepsFreezes, KeepsObjects, marked_from, objects_of};
+ghost use Rattle.homeo_effect.specs.inner.Uses.{objects_of, is_clause_on, freezes_at, is_freeze_on, marked_from};
 
-use homeo_plan::{Clause, Delta, Template, Term};
-use homeo_syntax::{LCommand, List, Memory, SplitName};
+use homeo_outline::Outline;
+use homeo_plan::Delta;
+use homeo_syntax::{LCommand, Memory, SplitName};
 use std::alloc::Global;
-
-/// Puts a number at an object.
-fn note(alloc: Global, uses: &mut Vec<Vec<u32>>, object: usize, number: u32) -> Result<(), Memory>
-    ensures { OnOk result ((x : ℕ) → at_object x (map (λ v. v.items) uses.new.items) ≡
-        if object == x then at_object x (map (λ v. v.items) uses.old.items) ++ number ∷ []
-        else at_object x (map (λ v. v.items) uses.old.items)) }
-{
-    while uses.len() <= object {
-        uses.push(Vec::new(alloc))?;
-    }
-    uses[object].push(number)?;
-    Ok(())
-}
-
-/// Puts a number at each object that a term is on.
-fn note_terms(
-    alloc: Global,
-    uses: &mut Vec<Vec<u32>>,
-    number: u32,
-    terms: &[Term],
-) -> Result<(), Memory>
-    ensures { OnOk result ((x n : ℕ) → has n (at_object x (map (λ v. v.items) uses.new.items)) ≡
-        (has n (at_object x (map (λ v. v.items) uses.old.items)) || (names_object x terms.now && (n == number)))) }
-{
-    for term in terms {
-        note(alloc, uses, term.delta.object as usize, number)?;
-    }
-    Ok(())
-}
-
-/// The numbers of clauses over whole objects, from 0, at the objects that they name.
-fn object_uses(alloc: Global, clauses: &[Clause]) -> Result<Vec<Vec<u32>>, Memory>
-    requires { length clauses.now < 2 ^ 32 }
-    ensures { IfOk result (λ u. KeepsObjects (map plain_clause clauses.now) (map (λ v. v.items) u.items)) }
-{
-    let mut uses = Vec::new(alloc);
-    let mut number = 0;
-    for clause in clauses {
-        note_terms(alloc, &mut uses, number, clause.terms.as_slice())?;
-        number += 1;
-    }
-    Ok(uses)
-}
-
-/// The numbers of the clauses of a template over whole objects, from 0, at the objects on whose deltas of the site they have terms.
-pub(crate) fn clause_uses(alloc: Global, site: u32, t: &Template) -> Result<Vec<Vec<u32>>, Memory>
-    requires { length t.now.clauses.items < 2 ^ 32 }
-    ensures { IfOk result (λ u. KeepsClauses site (expanded_template t.now.sites (plain_template t.now)).clauses (map (λ v. v.items) u.items)) }
-{
-    if site < t.sites {
-        object_uses(alloc, t.clauses.as_slice())
-    } else {
-        Ok(Vec::new(alloc))
-    }
-}
-
-/// The numbers of the freezes, from the first on, at the objects whose deltas of the site they freeze.
-pub(crate) fn freeze_uses(
-    alloc: Global,
-    site: u32,
-    first: u32,
-    freezes: &[Delta],
-) -> Result<Vec<Vec<u32>>, Memory>
-    requires { first + length freezes.now < 2 ^ 32 }
-    ensures { IfOk result (λ u. KeepsFreezes site first freezes.now (map (λ v. v.items) u.items)) }
-{
-    let mut uses = Vec::new(alloc);
-    let mut number = first;
-    for freeze in freezes {
-        if freeze.site == site {
-            note(alloc, &mut uses, freeze.object as usize, number)?;
-        }
-        number += 1;
-    }
-    Ok(uses)
-}
-
-/// Appends the numbers at an object.
-fn append(numbers: &mut Vec<u32>, uses: &[Vec<u32>], object: usize) -> Result<(), Memory>
-    ensures { OnOk result (numbers.new.items ≡ numbers.old.items ++ at_object object (map (λ v. v.items) uses.now)) }
-{
-    if object < uses.len() {
-        numbers.extend_from_slice(uses[object].as_slice())?;
-    }
-    Ok(())
-}
 
 /// The delta that a command writes.
 #[tactic(auto, using(homeo_syntax::proofs::LowViews::low_command_views, crate::proofs::Equations::writes))]
@@ -152,19 +66,61 @@ fn written_objects(alloc: Global, cs: &[LCommand]) -> Result<Vec<u32>, Memory>
     Ok(objects)
 }
 
-/// The numbers at the objects of which commands write a delta: rising, each once. An object that is written often is looked up
-/// once.
-pub(crate) fn touched(alloc: Global, uses: &[Vec<u32>], cs: &[LCommand]) -> Result<Vec<u32>, Memory>
+/// The numbers, from 0, of the clauses that name an object of which commands write a delta: rising, each once. An object that is
+/// written often is looked up once.
+pub(crate) fn written_clauses(
+    alloc: Global,
+    outline: &Outline,
+    cs: &[LCommand],
+) -> Result<Vec<u32>, Memory>
     ensures rising { IfOk result (λ v. IsStrictlySortedBy nat_cmp v.items) }
     ensures all { IfOk result (λ v. (n : ℕ) → has n v.items ≡
-        is_at n (written (low_commands (map plain_lcommand cs.now))) (map (λ v. v.items) uses.now)) }
+        is_clause_on outline.now.terms n (objects_of (written (low_commands (map plain_lcommand cs.now))))) }
 {
     let objects = written_objects(alloc, cs)?;
     let mut numbers = Vec::new(alloc);
     for object in objects.as_slice() {
-        append(&mut numbers, uses, *object as usize)?;
+        numbers.extend_from_slice(outline.clauses_on(*object))?;
     }
     rising(alloc, numbers)
+}
+
+/// The numbers of the freezes, at a site, of the objects of which commands write a delta: rising, each once. They go on after those
+/// of all clauses.
+pub(crate) fn written_freezes(
+    alloc: Global,
+    outline: &Outline,
+    site: u32,
+    cs: &[LCommand],
+) -> Result<Vec<u32>, Memory>
+    ensures rising { IfOk result (λ v. IsStrictlySortedBy nat_cmp v.items) }
+    ensures all { IfOk result (λ v. (n : ℕ) → has n v.items ≡
+        is_freeze_on outline.now site n (objects_of (written (low_commands (map plain_lcommand cs.now))))) }
+{
+    let objects = written_objects(alloc, cs)?;
+    let mut numbers = Vec::new(alloc);
+    for object in objects.as_slice() {
+        append_freezes(&mut numbers, outline, site, *object)?;
+    }
+    rising(alloc, numbers)
+}
+
+/// Appends the numbers of the freezes of an object at a site.
+fn append_freezes(
+    numbers: &mut Vec<u32>,
+    outline: &Outline,
+    site: u32,
+    object: u32,
+) -> Result<(), Memory>
+    ensures { OnOk result ((n : ℕ) → has n numbers.new.items ≡ (has n numbers.old.items || has n (freezes_at object site outline.now))) }
+{
+    let first = outline.terms().len();
+    for number in outline.freezes_on(object) {
+        if outline.freezes()[*number as usize - first].site == site {
+            numbers.push(*number)?;
+        }
+    }
+    Ok(())
 }
 
 /// Numbers in rising order, each once. Many are marked and read off, as a sort would merge the lists of all objects; where they are

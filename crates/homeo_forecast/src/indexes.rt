@@ -1,6 +1,6 @@
 //! Which clauses and freezes stand on each site's deltas.
 
-ghost use Rattle.std.specs.Prelude.{◌+◌, ◌<◌, ◌^◌, length, IfOk};
+ghost use Rattle.std.specs.Prelude.{IfOk};
 ghost use Rattle.homeo_outline.specs.ObjectPlan.{template_in};
 ghost use Rattle.homeo_forecast.specs.inner.Prepared.{AreIndexes};
 
@@ -15,12 +15,11 @@ pub(crate) fn indexes(
     alloc: Global,
     plan: &Arc<ObjectPlan, Global>,
 ) -> Result<List<TreatyIndex>, Memory>
-    requires { length plan.now.value.template.clauses.items + length plan.now.value.template.freezes.items < 2 ^ 32 }
-    ensures { IfOk result (λ xs. AreIndexes plan.now.value.template.sites (template_in plan.now.value) xs.items) }
+    ensures { IfOk result (λ xs. AreIndexes plan.now.value.outline.value.sites (template_in plan.now.value) xs.items) }
 {
     let mut indexes = List::new(alloc);
-    for site in 0..plan.template.sites {
-        indexes.push(TreatyIndex::of(alloc, plan, site)?)?;
+    for site in 0..plan.outline.sites() {
+        indexes.push(TreatyIndex::of(plan, site)?)?;
     }
     Ok(indexes)
 }

@@ -5,15 +5,17 @@ ghost use Rattle.homeo_syntax.specs.SourceView.{plain_workload};
 ghost use Rattle.homeo_meaning.specs.Bounds.{IsWithin};
 ghost use Rattle.homeo_meaning.specs.Calls.{CallExists};
 ghost use Rattle.homeo_meaning.specs.Schema.{schema_of};
+ghost use Rattle.homeo_plan.specs.PlanView.{plain_template};
 ghost use Rattle.homeo_plan.specs.Planned.{planned_at, template_at};
+ghost use Rattle.homeo_outline.specs.ObjectPlan.{template_in};
 ghost use Rattle.homeo_forecast.specs.inner.Prepared.{IsPrepared};
 
 use crate::indexes::indexes;
 use homeo_build::Compiled;
 use homeo_build::treaties::plan_at;
 use homeo_effect::TreatyIndex;
-use homeo_outline::ObjectPlan;
 use homeo_meaning::{CallId, Database};
+use homeo_outline::{ObjectPlan, whole_template};
 use homeo_plan::Template;
 use homeo_syntax::{List, Memory};
 use homeo_template::at_sites;
@@ -37,7 +39,7 @@ impl Prepared {
         // its rules hold
         let _workload = c.workload().workload();
         let plan = plan_at(alloc, c, base)?;
-        let template = at_sites(alloc, &plan.template)?;
+        let template = template_over_sites(alloc, &plan)?;
         let indexes = indexes(alloc, &plan)?;
         Ok(Prepared {
             plan,
@@ -59,4 +61,13 @@ impl Prepared {
         let indexes = self.indexes.as_slice();
         &indexes[site]
     }
+}
+
+/// The template of a plan over the deltas of the sites.
+fn template_over_sites(alloc: Global, plan: &ObjectPlan) -> Result<Template, Memory>
+    ensures sites { IfOk result (λ t. t.sites ≡ plan.now.outline.value.sites) }
+    ensures template { IfOk result (λ t. plain_template t ≡ template_in plan.now) }
+{
+    let whole = whole_template(alloc, &plan.outline, plan.slacks.as_slice())?;
+    at_sites(alloc, &whole)
 }

@@ -13,7 +13,7 @@ fn a_program_runs_on_the_deltas_of_its_site(rt: HostRuntime) {
     let residual = residual(&rt, alloc);
     let base = base(&rt, alloc, 5);
     let plan = plan(&rt, alloc);
-    let index = TreatyIndex::of(alloc, &plan, 0).expect(&rt, "memory");
+    let index = TreatyIndex::of(&plan, 0).expect(&rt, "memory");
     let effects = effects(alloc, &residual, &index, &base).expect(&rt, "memory");
     let program = Program::of(alloc, 0, effects.commands.as_slice()).expect(&rt, "memory");
     let mut deltas = [2];

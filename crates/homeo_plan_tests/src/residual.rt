@@ -1,12 +1,12 @@
 //! A residual of an object at two sites, of which the first takes one, and a plan.
 
-ghost use Rattle.std.specs.Prelude.{◌≡◌, ◌+◌, ◌<◌, ◌^◌, length};
+ghost use Rattle.std.specs.Prelude.{◌≡◌, ◌<◌, ◌^◌, length};
 ghost use Rattle.homeo_syntax.specs.Low.{Neg};
 ghost use Rattle.homeo_syntax.specs.LowView.{plain_lexpr};
 ghost use Rattle.homeo_plan_tests.specs.inner.ResidualExample.{lowered, IsExample};
 
 use crate::object::{base, object_sum, pair, sum};
-use homeo_outline::ObjectPlan;
+use homeo_outline::{ObjectPlan, Outline, outlined};
 use homeo_plan::{Clause, Config, Delta, Residual, Template, Term};
 use homeo_syntax::{LCommand, LExpr, List, SplitName, Temp};
 use std::alloc::Global;
@@ -55,7 +55,7 @@ pub(crate) fn residual(rt: &impl Abort, alloc: Global) -> Residual
 }
 
 /// A clause on the delta of the first object at site 0.
-pub(crate) fn clause(rt: &impl Abort, alloc: Global, factor: i128, slack: i128) -> Clause {
+fn clause(rt: &impl Abort, alloc: Global, factor: i128, slack: i128) -> Clause {
     let delta = Delta { object: 0, site: 0 };
     let terms = vec![in alloc; Term { delta, factor }].expect(rt, "memory");
     Clause {
@@ -68,24 +68,30 @@ fn bounds_of(rt: &impl Abort, alloc: Global, first: i128, second: i128) -> List<
     List::from_vec(vec![in alloc; first, second].expect(rt, "memory"))
 }
 
-/// A round in which the object is from 1 to 9: of its delta at site 0 at most 4 may be taken, and 2 added.
-pub(crate) fn plan(rt: &impl Abort, alloc: Global) -> Arc<ObjectPlan>
-    ensures { length result.value.template.clauses.items + length result.value.template.freezes.items < 2 ^ 32 }
-{
+/// The outline and the slacks of a plan for two sites, where of the first object at most 4 may be taken, and 4 added.
+pub(crate) fn outline(rt: &impl Abort, alloc: Global) -> (Outline, List<i128>) {
     let taken = clause(rt, alloc, -1, 4);
     let added = clause(rt, alloc, 1, 4);
     let clauses = List::from_vec(vec![in alloc; taken, added].expect(rt, "memory"));
+    let template = Template {
+        sites: 2,
+        clauses,
+        freezes: List::new(alloc),
+    };
+    outlined(alloc, template).expect(rt, "memory")
+}
+
+/// A round in which the object is from 1 to 9: of its delta at site 0 at most 4 may be taken, and 2 added.
+pub(crate) fn plan(rt: &impl Abort, alloc: Global) -> Arc<ObjectPlan> {
+    let (outline, slacks) = outline(rt, alloc);
     let taken = bounds_of(rt, alloc, 4, 0);
     let added = bounds_of(rt, alloc, 2, 2);
     let bounds = List::from_vec(vec![in alloc; taken, added].expect(rt, "memory"));
     let plan = ObjectPlan {
         base: base(rt, alloc, 5),
         parts: List::new(alloc),
-        template: Template {
-            sites: 2,
-            clauses,
-            freezes: List::new(alloc),
-        },
+        outline: Arc::new(alloc, outline).expect(rt, "memory"),
+        slacks,
         bounds: Some(Config { bounds }),
     };
     Arc::new(alloc, plan).expect(rt, "memory")

@@ -6,11 +6,12 @@ ghost use Rattle.homeo_meaning.specs.Small.{IsSmall};
 ghost use Rattle.homeo_plan.specs.Limit.{form_limit};
 ghost use Rattle.homeo_plan_tests.specs.inner.AtomExample.{AreSmall};
 
-use crate::residual::clause;
+use crate::residual::outline;
 use crate::same::{same, same_items};
+use homeo_outline::{rebased_slacks, whole_template};
 use homeo_plan::{Atom, AtomSet, Clause, Delta, FreezeSet, Linear, Term};
 use homeo_syntax::List;
-use homeo_template::{rebased_clauses, template};
+use homeo_template::template;
 use std::alloc::Global;
 use std::process::Abort;
 
@@ -107,16 +108,19 @@ fn equal_atoms_are_one_clause_and_freezes_stand_in_order(rt: HostRuntime) {
 #[test]
 fn slacks_go_by_what_the_object_gained(rt: HostRuntime) {
     let alloc = rt.alloc();
-    let clauses = [clause(&rt, alloc, -1, 2), clause(&rt, alloc, 1, 8)];
-    let made = rebased_clauses(alloc, &clauses, &[5], &[4]).expect(&rt, "memory");
-    drop(clauses);
+    let (outline, slacks) = outline(&rt, alloc);
+    drop(slacks);
+    let made = rebased_slacks(alloc, &outline, &[2, 8], &[5], &[4]).expect(&rt, "memory");
     let made = made.unwrap_or(List::new(alloc));
-    match made.as_slice() {
+    let whole = whole_template(alloc, &outline, made.as_slice()).expect(&rt, "memory");
+    drop(made);
+    drop(outline);
+    match whole.clauses.as_slice() {
         [taken, added] => {
             assert!(rt; is_clause(taken, &[term(0, 0, -1)], 1));
             assert!(rt; is_clause(added, &[term(0, 0, 1)], 9));
         }
         _ => panic!(rt; "two clauses"),
     }
-    drop(made);
+    drop(whole);
 }

@@ -11,8 +11,8 @@ use homeo_build::residuals::residual;
 use homeo_build::treaties::plan_at;
 use homeo_effect::{SiteEffects, TreatyIndex, effects};
 use homeo_eval::initial;
-use homeo_outline::ObjectPlan;
 use homeo_meaning::Database;
+use homeo_outline::ObjectPlan;
 use homeo_plan::Row;
 use homeo_print::{ObjectNames, print_row};
 use homeo_syntax::{LCommand, LCond, List, Workload};
@@ -43,15 +43,11 @@ fn first_effects(
     requires plan { IsObjectPlan (plain_workload c.now) base.now.items plan.now.value }
 {
     let _workload = c.workload().workload();
-    let template = &plan.template;
-    if template.clauses.as_slice().len() > 9 || template.freezes.as_slice().len() > 9 {
-        panic!(rt; "a small treaty");
-    }
     if c.calls().is_empty() {
         panic!(rt; "a call");
     }
     let residual = residual(alloc, c, base, 0).expect(rt, "memory");
-    let index = TreatyIndex::of(alloc, plan, residual.site).expect(rt, "memory");
+    let index = TreatyIndex::of(plan, residual.site).expect(rt, "memory");
     let effects = effects(alloc, &residual, &index, base).expect(rt, "memory");
     drop(index);
     drop(residual);

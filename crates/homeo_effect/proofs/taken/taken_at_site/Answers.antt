@@ -1,5 +1,5 @@
 -- What the commands at the site are, and that they do what the delta transform of the given ones does.
-use Rattle.std.proofs.Common.{◌≡◌, length, true, map, sym, ap, ◌∙◌, subst}
+use Rattle.std.proofs.Common.{length, map, sym, ap, ◌∙◌, subst}
 use Rattle.std.proofs.lemmas.List.{length-map}
 use Rattle.homeo_syntax.specs.LowView.{plain_lcommand}
 use Rattle.homeo_meaning.specs.LowMeaning.{exec_all}

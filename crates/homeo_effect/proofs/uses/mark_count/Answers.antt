@@ -2,7 +2,7 @@
 use Rattle.std.proofs.Common.{ℕ, ◌<◌, List, subst, arith}
 use Rattle.std.specs.List.{All}
 use Rattle.std.proofs.lemmas.List.Elements.{All-more, All-weaker}
-use Rattle.homeo_effect.proofs.Keeping.{all_taken}
+use Rattle.homeo_effect.proofs.WrittenDeltas.{all_taken}
 use Rattle.homeo_effect.proofs.uses.mark_count.Goals as goal
 
 pub loop-number-preserved : goal.loop-number-preserved

@@ -1,6 +1,6 @@
 -- The numbers so far are marked.
 use Rattle.std.proofs.Common.{◌≡◌, ℕ, false, length, get_or, take}
-use Rattle.homeo_effect.specs.inner.Uses.{has}
+use Rattle.homeo_outline.specs.Numbers.{has}
 use Rattle.homeo_effect.proofs.uses.marks.Given as goal
 
 abbrev pub invariant-loop-number : goal.invariant-loop-number

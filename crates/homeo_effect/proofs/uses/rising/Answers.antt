@@ -2,7 +2,7 @@
 use Rattle.std.proofs.Common.{◌≡◌, ℕ, Bool, false, List, get_or, sym, subst, ap, ◌∙◌}
 use Rattle.std.specs.List.Sorted.{IsStrictlySortedBy}
 use Rattle.std.specs.Ordering.{nat_cmp}
-use Rattle.homeo_effect.specs.inner.Uses.{has}
+use Rattle.homeo_outline.specs.Numbers.{has}
 use Rattle.homeo_effect.proofs.RisingNumbers.{numbers_rise}
 use Rattle.homeo_effect.proofs.Marking.{all_read, few_read}
 use Rattle.homeo_effect.proofs.uses.rising.Goals as goal
@@ -17,7 +17,7 @@ marked-requires-clause-room c =
     (lent _ _ _ _ c.as_slice-else-len-count-2.ensures.value c.as_slice-else-len-count.ensures.value c.in_ok-marks.ensures.set)
 
 pub returns-in_ok-marks-clause-rising : goal.returns-in_ok-marks-clause-rising
-returns-in_ok-marks-clause-rising c = subst (IsStrictlySortedBy nat_cmp) (sym c.marked.ensures) (numbers_rise (λ mark. mark) 0 _)
+returns-in_ok-marks-clause-rising c = subst (IsStrictlySortedBy nat_cmp) (sym c.marked.ensures) (numbers_rise (λ mark. mark) 0 c.as_slice-else-len-count-2.result.now)
 
 pub returns-in_ok-marks-clause-all : goal.returns-in_ok-marks-clause-all
 returns-in_ok-marks-clause-all c n =

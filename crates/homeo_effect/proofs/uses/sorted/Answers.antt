@@ -3,7 +3,7 @@ use Rattle.std.proofs.Common.{◌==◌, sym, ap, ◌∙◌}
 use Rattle.std.proofs.lemmas.List.Filters.{dedup_is}
 use Rattle.std.proofs.lemmas.List.Sorted.{list_any-IsPermutation}
 use Rattle.std.proofs.lemmas.Map.Keys.{IsStrictlyIncreasing-dedup, sorted_from_strictly_increasing}
-use Rattle.homeo_effect.specs.inner.Uses.{has}
+use Rattle.homeo_outline.specs.Numbers.{has}
 use Rattle.homeo_effect.proofs.RisingNumbers.{kept}
 use Rattle.homeo_effect.proofs.uses.sorted.Goals as goal
 

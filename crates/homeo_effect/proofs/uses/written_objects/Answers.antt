@@ -4,10 +4,11 @@ use Rattle.std.proofs.lemmas.List.Filters.{dedup_is}
 use Rattle.std.proofs.lemmas.List.Sorted.{list_any-IsPermutation}
 use Rattle.homeo_syntax.specs.Key.{definitions as syntax_definitions}
 use Rattle.homeo_syntax.specs.LowView.{low_commands, plain_lcommand}
+use Rattle.homeo_outline.specs.Numbers.{has}
 use Rattle.homeo_effect.specs.Key.{definitions}
 use Rattle.homeo_effect.specs.Touched.{written}
-use Rattle.homeo_effect.specs.inner.Uses.{has, objects_of}
-use Rattle.homeo_effect.proofs.Keeping.{objects_more, all_taken}
+use Rattle.homeo_effect.specs.inner.Uses.{objects_of}
+use Rattle.homeo_effect.proofs.WrittenDeltas.{objects_more, all_taken}
 use Rattle.homeo_effect.proofs.RisingNumbers.{kept}
 use Rattle.homeo_effect.proofs.uses.written_objects.Goals as goal
 
