@@ -1,7 +1,7 @@
 -- The template of an accepted workload freezes few deltas: each once, of its objects at its sites.
 use Rattle.homeo_meaning.specs.Key.{definitions as meaning_definitions}
 use Rattle.homeo_plan.specs.Key.{definitions as plan_definitions}
-use Rattle.std.proofs.Common.{◌≡◌, ℕ, ◌+◌, ◌*◌, ◌^◌, ◌<◌, ◌≤◌, true, List, [], ◌∷◌, map, length, ℤ, sym, ap, subst, arith}
+use Rattle.std.proofs.Common.{◌≡◌, ℕ, ◌+◌, ◌*◌, ◌^◌, ◌<◌, ◌≤◌, suc, true, List, [], ◌∷◌, map, length, ℤ, refl, sym, ap, subst, arith}
 use Rattle.std.proofs.lemmas.Bool.Decides.{nat_tests}
 use Rattle.std.proofs.lemmas.List.{length-map}
 use Rattle.homeo_syntax.specs.Source as s
@@ -18,13 +18,16 @@ use Rattle.homeo_lform.proofs.NamedWithin.{named_law}
 use Rattle.homeo_lform.proofs.ObjectBounds.{bounds_count}
 use Rattle.homeo_plan.specs.Each.{Each}
 use Rattle.homeo_plan.specs.declared.forms.Delta.{Delta}
+use Rattle.homeo_plan.specs.declared.forms.Term.{Term}
 use Rattle.homeo_plan.specs.Linear.{AreInOrder, delta_before, Linear}
 use Rattle.homeo_plan.specs.Planned.{sites_of, planned_call, planned, template_at}
 use Rattle.homeo_plan.specs.PlanView.{plain_clause}
 use Rattle.homeo_plan.specs.declared.round.RoundPlan.{RoundPlan}
 use Rattle.homeo_plan.specs.Template.{PlannedCall, atoms_of, needs_of, atoms_of_sets, put_all, Template, template}
 use Rattle.homeo_follow.specs.Key.{definitions as follow_definitions}
-use Rattle.homeo_follow.specs.ObjectTemplate.{expanded_clause}
+use Rattle.homeo_follow.specs.ObjectTemplate.{expanded_clause, expanded_template}
+use Rattle.homeo_outline.specs.Key.{definitions as outline_definitions}
+use Rattle.homeo_outline.specs.ObjectPlan.{clauses_with, template_with}
 use Rattle.homeo_outline.specs.declared.plan.ObjectPlan.{ObjectPlan}
 use Rattle.homeo_plan.proofs.DeltaLists.{After, in_order_puts, each_put_all}
 use Rattle.homeo_follow.proofs.Terms.{each_append}
@@ -141,12 +144,28 @@ plan_few w base p accepted plan =
     let freezes = ap (λ (t : Template). length t.freezes) plan.template in
     omega (arith, clauses, freezes, length-map p.template.clauses.items plain_clause, clauses_few w base accepted, freezes_few w base accepted)
 
+-- of a template over whole objects
+pub whole_few :
+    (w : s.Workload) (base : List ℤ) (k : ℕ) (t : Template) → IsAccepted w → expanded_template k t ≡ template_at w base →
+    length t.clauses + length t.freezes < 2 ^ 32
+unfolding follow_definitions
+whole_few w base k t accepted is =
+    let clauses = ap (λ (u : Template). length u.clauses) is in
+    let freezes = ap (λ (u : Template). length u.freezes) is in
+    omega (arith, clauses, freezes, length-map t.clauses (expanded_clause k), clauses_few w base accepted, freezes_few w base accepted)
+
+-- a clause for each list of terms
+one_each : (tss : List (List Term)) (ss : List ℤ) → length (clauses_with tss ss) ≡ length tss
+unfolding outline_definitions
+one_each [] ss = refl
+one_each (ts ∷ tss) [] = ap suc (one_each tss [])
+one_each (ts ∷ tss) (s ∷ ss) = ap suc (one_each tss ss)
+
 pub object_plan_few :
     (w : s.Workload) (base : List ℤ) (p : ObjectPlan) → IsAccepted w → IsObjectPlan w base p →
-    length p.template.clauses.items + length p.template.freezes.items < 2 ^ 32
-unfolding follow_definitions
+    length p.outline.value.terms + length p.outline.value.freezes < 2 ^ 32
+unfolding outline_definitions
 object_plan_few w base p accepted plan =
-    let clauses = ap (λ (t : Template). length t.clauses) plan.template in
-    let freezes = ap (λ (t : Template). length t.freezes) plan.template in
-    let spread = length-map (map plain_clause p.template.clauses.items) (expanded_clause p.template.sites) in
-    omega (arith, clauses, freezes, spread, length-map p.template.clauses.items plain_clause, clauses_few w base accepted, freezes_few w base accepted)
+    let o = p.outline.value in
+    let few = whole_few w base o.sites (template_with o p.slacks.items) accepted plan.template in
+    omega (arith, few, one_each o.terms p.slacks.items)

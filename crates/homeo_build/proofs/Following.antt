@@ -5,7 +5,7 @@ use Rattle.std.specs.List.{list_all}
 use Rattle.std.specs.Ordering.{int_eq}
 use Rattle.std.proofs.lemmas.Bool.{and_parts}
 use Rattle.std.proofs.lemmas.Int.{ints}
-use Rattle.std.proofs.lemmas.List.{take_all}
+use Rattle.std.proofs.lemmas.List.{take_all, length-map}
 use Rattle.std.specs.declared.sync.Arc.{Arc}
 use Rattle.homeo_syntax.specs.Low.{Command}
 use Rattle.homeo_syntax.specs.LowView.{plain_lcommand}
@@ -34,13 +34,17 @@ use Rattle.homeo_follow.specs.Brought.{Brought, brought, plain_part}
 use Rattle.homeo_follow.specs.Expanded.{expanded}
 use Rattle.homeo_follow.specs.Follow.{followed}
 use Rattle.homeo_follow.specs.Named.{named}
+use Rattle.homeo_follow.specs.Rebased.{rebased, gains}
 use Rattle.homeo_follow.specs.declared.part.PlanPart.{PlanPart}
 use Rattle.homeo_follow.proofs.PlannedAtoms.{atoms_are_followed}
+use Rattle.homeo_follow.proofs.Staying.{parts_stay}
+use Rattle.homeo_follow.proofs.Unmoved.{parts_rebased}
 use Rattle.homeo_follow.proofs.Weighed.{accepted_small}
 use Rattle.homeo_build.specs.Key.{definitions}
 use Rattle.homeo_build.specs.Forms.{IsCallForm, AreForms}
 use Rattle.homeo_build.specs.Plan.{AreParts}
 use Rattle.homeo_build.specs.inner.Followed.{IsSmallAlong}
+use Rattle.homeo_build.specs.inner.Rebased.{IsRebased, AreRebased}
 use Rattle.homeo_build.proofs.FormsMade.{placed_map, one_placed}
 use Rattle.homeo_build.proofs.Grown.{same_length, same_place, map_map}
 
@@ -155,6 +159,21 @@ parts_all w base fs places parts i forms past so_far =
     are_parts w base (map plain_lcommand fs) places forms parts
     (so_far ∙ ap (map (lent_brought (values_of base))) (take_all i fs past) ∙ sym (map_map plain_lcommand (brought (values_of base)) fs))
 
+-- what is kept of a part, rebased from one base to another
+abbrev pub shared_moved : {Z : Type 0} → List ℤ → List ℤ → Arc PlanPart Z → Brought
+shared_moved last base p = rebased (gains (values_of last) (values_of base)) (shared_part p)
+
+-- there are as many as forms, and they are lent
+pub all_moved :
+    {Z : Type 0} (last base : List ℤ) (fs : List LCommand) (old lent parts : List (Arc PlanPart Z)) (i : ℕ) → lent ≡ old →
+    map shared_part lent ≡ map (brought (values_of last)) (map plain_lcommand fs) → length fs ≤ i →
+    map shared_part parts ≡ map (shared_moved last base) (take i lent) → AreRebased last base old parts
+all_moved last base fs old lent parts i same are past so_far =
+    let count = same_length shared_part (brought (values_of last)) lent (map plain_lcommand fs) are in
+    let end : length lent ≤ i = omega (arith, count, length-map fs plain_lcommand, past) in
+    so_far ∙ ap (map (shared_moved last base)) (take_all i lent end ∙ same)
+    ∙ sym (map_map shared_part (rebased (gains (values_of last) (values_of base))) old)
+
 -- the part of the form at a number, and the objects that the form names
 module _
     {Z N : Type 0} (b : ℕ → ℤ) (fs : List LCommand) (parts : List (Arc PlanPart Z)) (names : List (Vec ℕ N)) (i : ℕ)
@@ -194,6 +213,24 @@ values_same last base (x ∷ xs) h =
     let both = and_parts (same_value last base x) (list_all (same_value last base) xs) h in
     let here : values_of last x ≡ values_of base x = grind (arith, ints, both.0) in
     (here, values_same last base xs both.1)
+
+-- what is kept of a base, where the form names no object that has another value at another one; both are lent
+module _
+    (last base from to : List ℤ) (from_is : from ≡ last) (to_is : to ≡ base) (f : Command) (xs : List ℕ) (kept : Brought)
+    (names : xs ≡ named f) (is : kept ≡ brought (values_of last) f) (stays : list_all (same_value from to) xs ≡ true)
+  where
+    agree : Each (λ x. values_of last x ≡ values_of base x) (named f)
+    agree =
+        subst (Each (λ x. values_of last x ≡ values_of base x)) names
+        (values_same last base xs (sym (λ i. list_all (same_value (from_is i) (to_is i)) xs) ∙ stays))
+
+    pub kept_stays : kept ≡ brought (values_of base) f
+    kept_stays = is ∙ parts_stay (values_of last) (values_of base) f agree
+
+    pub kept_rebased : IsRebased from to kept (brought (values_of base) f)
+    kept_rebased =
+        parts_rebased (values_of last) (values_of base) f agree
+        ∙ sym (λ i. rebased (gains (values_of (from_is i)) (values_of (to_is i))) (is i))
 
 -- ---- a ground call
 module _ (w : s.Workload) (g : Ground) (b : ℕ → ℤ) (site : g.site < sites_of w) where

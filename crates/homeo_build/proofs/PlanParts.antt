@@ -1,5 +1,5 @@
 -- The parts of a plan: its template has small constants, and each configuration for it fits.
-use Rattle.std.proofs.Common.{◌≡◌, ℕ, List, [], ◌∷◌, map, ℤ, pos, Option, Some, None, refl, sym, ap, subst}
+use Rattle.std.proofs.Common.{◌≡◌, ℕ, List, [], ◌∷◌, map, ℤ, pos, Option, Some, None, refl, sym, ap, ap₂, subst, ◌∙◌}
 use Rattle.std.specs.Prelude.{◌≤ℤ◌}
 use Rattle.homeo_syntax.specs.Source as s
 use Rattle.homeo_meaning.specs.Acceptance.{IsAccepted}
@@ -11,14 +11,19 @@ use Rattle.homeo_plan.specs.Key.{definitions as plan_definitions}
 use Rattle.homeo_plan.specs.Config as config
 use Rattle.homeo_plan.specs.Each.{Each}
 use Rattle.homeo_plan.specs.Limit.{form_limit}
-use Rattle.homeo_plan.specs.PlanView.{plain_config}
+use Rattle.homeo_plan.specs.PlanView.{plain_config, plain_template}
 use Rattle.homeo_plan.specs.Planned.{sites_of, planned, template_at, shares_of, policy}
 use Rattle.homeo_plan.specs.Template.{Clause, Template}
 use Rattle.homeo_plan.specs.declared.templates.Config.{Config}
+use Rattle.homeo_plan.specs.declared.templates.Template as code
 use Rattle.homeo_plan.proofs.Policy.{slacks_law, policy_fits}
 use Rattle.homeo_follow.specs.Key.{definitions}
-use Rattle.homeo_outline.specs.ObjectPlan.{config_or}
+use Rattle.homeo_outline.specs.Key.{definitions as outline_definitions}
+use Rattle.homeo_outline.specs.ObjectPlan.{config_or, template_with}
+use Rattle.homeo_outline.specs.Outlined.{Outlined}
 use Rattle.homeo_follow.specs.ObjectTemplate.{expanded_clause, expanded_template}
+use Rattle.homeo_build.specs.declared.calls.SharedTemplate.{SharedTemplate}
+use Rattle.homeo_build.specs.inner.SharedTemplate.{spread}
 use Rattle.homeo_build.proofs.ByObjects.{small_slacks}
 
 -- ---- the template
@@ -44,6 +49,13 @@ module _ (w : s.Workload) (base : List ℤ) (k : ℕ) (t : Template) (is : expan
   small_object_slacks accepted within =
       slacks_back (λ n. IsSmall form_limit n) k t.clauses (small_slacks w base accepted within (expanded_template k t) is)
 
+-- made whole of an outline and slacks, and then over the deltas of the sites
+pub spread_whole :
+    (t : SharedTemplate) (o : Outlined) (slacks : List ℤ) (whole : code.Template) → o ≡ t.outline.value → slacks ≡ t.slacks.items →
+    whole.sites ≡ o.sites → plain_template whole ≡ template_with o slacks → expanded_template whole.sites (plain_template whole) ≡ spread t
+spread_whole t o slacks whole outline_is slacks_is sites is =
+    ap₂ expanded_template sites is ∙ (λ i. expanded_template (outline_is i).sites (template_with (outline_is i) (slacks_is i)))
+
 -- ---- configurations
 pub policy_is :
     (w : s.Workload) (base : List ℤ) (t : Template) → t ≡ template_at w base → config.split_by (shares_of w) t.clauses ≡ policy w base
@@ -54,7 +66,7 @@ pub config_fits :
     (w : s.Workload) (base : List ℤ) (made : Config) (given : Option Config) → IsAccepted w →
     ((c : Config) → given ≡ Some c → config.Fits (sites_of w) (template_at w base).clauses (plain_config c)) →
     plain_config made ≡ config_or (policy w base) given → config.Fits (sites_of w) (template_at w base).clauses (plain_config made)
-unfolding definitions
+unfolding outline_definitions
 config_fits w base made None accepted fits is =
     subst (config.Fits (sites_of w) (template_at w base).clauses) (sym is) (policy_fits w base accepted)
 config_fits w base made (Some c) accepted fits is =

@@ -55,5 +55,5 @@ pub record IsObjectPlan (w : s.Workload) (values : List ℤ) (p : ObjectPlan) : 
   pub within : IsWithin (schema_of w) values
   pub base : p.base.items ≡ values
   pub parts : AreParts w values p.parts.items
-  pub sites : p.template.sites ≡ sites_of w
+  pub sites : p.outline.value.sites ≡ sites_of w
   pub template : template_in p ≡ template_at w values

@@ -9,11 +9,13 @@ ghost use Rattle.homeo_plan.specs.PlanView.{plain_template};
 ghost use Rattle.homeo_plan.specs.Planned.{sites_of, template_at};
 ghost use Rattle.homeo_follow.specs.ObjectTemplate.{expanded_template};
 ghost use Rattle.homeo_build.specs.Plan.{AreParts};
+ghost use Rattle.homeo_build.specs.inner.SharedTemplate.{IsTemplateAt};
 
 use crate::compiled::Compiled;
 use crate::frozen::FrozenObjects;
 use homeo_follow::PlanPart;
 use homeo_meaning::Database;
+use homeo_outline::{Outline, outlined};
 use homeo_plan::Template;
 use homeo_syntax::{List, Memory};
 use homeo_template::object_clauses;
@@ -50,4 +52,31 @@ pub(crate) fn object_template(
         clauses,
         freezes: List::from_vec(freezes),
     })
+}
+
+/// A template over whole objects, as an outline that plans share and the slacks of its clauses.
+#[derive(Drop)]
+pub(crate) struct SharedTemplate {
+    pub(crate) outline: Arc<Outline>,
+    pub(crate) slacks: List<i128>,
+}
+
+/// The template of what the ground calls ask and need at a base, with an outline of its own.
+pub(crate) fn template_of_parts(
+    alloc: Global,
+    c: &Compiled,
+    base: &Database,
+    parts: &[Arc<PlanPart>],
+    sites: u32,
+) -> Result<SharedTemplate, Memory>
+    requires accepted { IsAccepted (plain_workload c.now) }
+    requires within { IsWithin (schema_of (plain_workload c.now)) base.now.items }
+    requires parts { AreParts (plain_workload c.now) base.now.items parts.now }
+    requires sites { sites ≡ sites_of (plain_workload c.now) }
+    ensures { IfOk result (IsTemplateAt (plain_workload c.now) base.now.items) }
+{
+    let template = object_template(alloc, c, base, parts, sites)?;
+    let (outline, slacks) = outlined(alloc, template)?;
+    let outline = Arc::new(alloc, outline)?;
+    Ok(SharedTemplate { outline, slacks })
 }

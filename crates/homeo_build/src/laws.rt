@@ -32,7 +32,7 @@ pub fn accepted_plans_are_few()
     ensures plan { (w : Workload) (base : List ℤ) (p : RoundPlan) → IsAccepted w → IsPlanOf w base p →
         length p.template.clauses.items + length p.template.freezes.items < 2 ^ 32 }
     ensures object_plan { (w : Workload) (base : List ℤ) (p : ObjectPlan) → IsAccepted w → IsObjectPlan w base p →
-        length p.template.clauses.items + length p.template.freezes.items < 2 ^ 32 }
+        length p.outline.value.terms + length p.outline.value.freezes < 2 ^ 32 }
 {}
 
 /// The residual of an accepted workload's ground call has at most 200,000 commands at each base: no more than its L form is large.

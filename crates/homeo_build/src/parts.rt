@@ -1,6 +1,6 @@
 //! What the L forms of a workload bring to the plans of its rounds.
 
-ghost use Rattle.std.specs.Prelude.{◌≡◌, ℕ, IfOk};
+ghost use Rattle.std.specs.Prelude.{◌≡◌, ℕ, IfOk, IsTrue};
 ghost use Rattle.std.specs.List.{list_all};
 ghost use Rattle.std.specs.Ordering.{int_eq};
 ghost use Rattle.homeo_syntax.specs.LowView.{plain_lcommand};
@@ -10,22 +10,30 @@ ghost use Rattle.homeo_meaning.specs.Bounds.{IsWithin};
 ghost use Rattle.homeo_meaning.specs.Schema.{schema_of};
 ghost use Rattle.homeo_meaning.specs.Serial.{values_of};
 ghost use Rattle.homeo_meaning.specs.Small.{IsSmall};
-ghost use Rattle.homeo_plan.specs.Each.{Each};
 ghost use Rattle.homeo_plan.specs.Limit.{form_limit};
 ghost use Rattle.homeo_follow.specs.Brought.{brought, plain_part};
-ghost use Rattle.homeo_follow.specs.Named.{named};
 ghost use Rattle.homeo_build.specs.Plan.{AreParts, IsObjectPlan};
 ghost use Rattle.homeo_build.specs.inner.Followed.{IsSmallAlong};
+ghost use Rattle.homeo_build.specs.inner.Rebased.{IsRebased, AreRebased};
 
 use crate::compiled::Compiled;
 use homeo_follow::PlanPart;
-use homeo_outline::ObjectPlan;
 use homeo_linear::follow_at;
 use homeo_meaning::Database;
 use homeo_meaning::padded::item_or;
+use homeo_outline::{ObjectPlan, is_rebased};
 use homeo_syntax::{LCommand, List, Memory};
 use std::alloc::Global;
 use std::sync::Arc;
+
+/// What the L forms bring at a base, and how that stands to what they brought to a plan of another.
+#[derive(Drop)]
+pub(crate) struct PartsAfter {
+    /// What each brings, in the order of the forms.
+    pub(crate) parts: List<Arc<PlanPart>>,
+    /// It is known that each brings what it brought to that plan, rebased.
+    pub(crate) are_rebased: bool,
+}
 
 /// What each L form brings at a base, in the order of the forms.
 pub(crate) fn parts_at(
@@ -45,48 +53,62 @@ pub(crate) fn parts_at(
 }
 
 /// The same, where there is a plan at another base: the part of a form stays, shared with that plan, where no object that the form
-/// names has another value.
+/// names has another value, and is rebased by that. Those that are made anew are compared with the ones that are kept, up to the
+/// first that isn't rebased.
 pub(crate) fn parts_after(
     alloc: Global,
     c: &Compiled,
     last: &ObjectPlan,
     base: &Database,
-) -> Result<List<Arc<PlanPart>>, Memory>
+) -> Result<PartsAfter, Memory>
     requires accepted { IsAccepted (plain_workload c.now) }
     requires within { IsWithin (schema_of (plain_workload c.now)) base.now.items }
     requires last { IsObjectPlan (plain_workload c.now) last.now.base.items last.now }
-    ensures { IfOk result (λ ps. AreParts (plain_workload c.now) base.now.items ps.items) }
+    ensures parts { IfOk result (λ made. AreParts (plain_workload c.now) base.now.items made.parts.items) }
+    ensures rebased { IfOk result (λ made. IsTrue made.are_rebased →
+        AreRebased last.now.base.items base.now.items last.now.parts.items made.parts.items) }
 {
     let forms = c.forms();
     let names = forms.names.as_slice();
     let kept = last.parts.as_slice();
+    let (from, to) = (last.base.as_slice(), base.as_slice());
     let mut parts = List::new(alloc);
+    let mut are_rebased = true;
     for (i, form) in forms.forms.as_slice().iter().enumerate() {
-        let part = part_after(alloc, form, names[i].as_slice(), &kept[i], &last.base, base)?;
+        let old = &kept[i];
+        let stays = have_same_values(names[i].as_slice(), from, to);
+        let part = part_after(alloc, form, old, stays, base)?;
+        are_rebased = are_rebased && is_rebased_part(old, &part, stays, from, to);
         parts.push(part)?;
     }
-    Ok(parts)
+    Ok(PartsAfter { parts, are_rebased })
 }
 
-/// What one L form brings at a base: what is kept of that at the last one, unless an object that the form names has another value.
+/// What one L form brings at a base: what is kept, where that stays.
 fn part_after(
     alloc: Global,
     form: &LCommand,
-    names: &[u32],
     kept: &Arc<PlanPart>,
-    last: &Database,
+    stays: bool,
     base: &Database,
 ) -> Result<Arc<PlanPart>, Memory>
-    requires names { names.now ≡ named (plain_lcommand form.now) }
-    requires kept { plain_part kept.now.value ≡ brought (values_of last.now.items) (plain_lcommand form.now) }
+    requires kept { IsTrue stays → plain_part kept.now.value ≡ brought (values_of base.now.items) (plain_lcommand form.now) }
     requires form { IsSmallAlong (values_of base.now.items) (plain_lcommand form.now) }
     requires base { (x : ℕ) → IsSmall form_limit (values_of base.now.items x) }
     ensures { IfOk result (λ p. plain_part p.value ≡ brought (values_of base.now.items) (plain_lcommand form.now)) }
 {
-    if stays(names, last.as_slice(), base.as_slice()) {
+    if stays {
         return Ok(Arc::try_clone(kept)?);
     }
     part_at(alloc, form, base)
+}
+
+/// Whether what an L form brings at a base is found to be what is kept of it, rebased. What stays is so, and isn't compared.
+fn is_rebased_part(kept: &PlanPart, part: &PlanPart, stays: bool, from: &[i64], to: &[i64]) -> bool
+    requires { IsTrue stays → IsRebased from.now to.now (plain_part kept.now) (plain_part part.now) }
+    ensures { IsTrue result → IsRebased from.now to.now (plain_part kept.now) (plain_part part.now) }
+{
+    stays || is_rebased(kept, part, from, to)
 }
 
 /// What one L form brings at a base, to be shared.
@@ -100,7 +122,7 @@ fn part_at(alloc: Global, form: &LCommand, base: &Database) -> Result<Arc<PlanPa
 }
 
 /// Whether two bases have one value for each of these objects.
-fn stays(names: &[u32], last: &[i64], base: &[i64]) -> bool
+fn have_same_values(names: &[u32], last: &[i64], base: &[i64]) -> bool
     ensures { result ≡ list_all (λ x. int_eq (values_of last.now x) (values_of base.now x)) names.now }
 {
     names.iter().all(|x| item_or(last, *x as usize, 0) == item_or(base, *x as usize, 0))

@@ -14,19 +14,19 @@ ghost use Rattle.homeo_plan.specs.Planned.{sites_of, template_at, shares_of, pol
 ghost use Rattle.homeo_plan.specs.declared.templates.Config.{Config};
 ghost use Rattle.homeo_plan.specs.Linear.{AreInOrder};
 ghost use Rattle.homeo_outline.specs.ObjectPlan.{config_or, config_in};
-ghost use Rattle.homeo_follow.specs.ObjectTemplate.{expanded_template};
 ghost use Rattle.homeo_build.specs.Plan.{AreParts, IsPlanOf, IsObjectPlan};
+ghost use Rattle.homeo_build.specs.inner.SharedTemplate.{spread, IsTemplateAt};
 
-use crate::calls::object_template;
+use crate::calls::{SharedTemplate, object_template, template_of_parts};
 use crate::compiled::Compiled;
 use crate::parts::{parts_after, parts_at};
-use crate::rebased::template_after;
+use crate::rebased::outline_after;
 use crate::shares::shares;
 use crate::sites::site_count;
 use homeo_config::{split_even, split_weighted};
 use homeo_follow::PlanPart;
-use homeo_outline::ObjectPlan;
 use homeo_meaning::Database;
+use homeo_outline::{ObjectPlan, whole_template};
 use homeo_plan::{Config, RoundPlan, Template};
 use homeo_syntax::{List, Memory};
 use homeo_template::at_sites;
@@ -87,13 +87,13 @@ pub fn plan_at(alloc: Global, c: &Compiled, base: &Database) -> Result<Arc<Objec
 {
     let sites = site_count(c.workload());
     let parts = parts_at(alloc, c, base)?;
-    let template = object_template(alloc, c, base, parts.as_slice(), sites)?;
+    let template = template_of_parts(alloc, c, base, parts.as_slice(), sites)?;
     object_plan(alloc, c, base, parts, template)
 }
 
 /// The same plan, made from that of another base of the workload: what a form brings stays, shared with that plan, where no object
 /// that it names has another value; and where all forms bring what they brought there, but for what the objects gained, so does the
-/// template but for its slacks. The base must be within the workload's bounds.
+/// outline, and only the slacks are made. The base must be within the workload's bounds.
 ///
 /// # Errors
 ///
@@ -110,9 +110,9 @@ pub fn plan_after(
     ensures policy { IfOk result (λ p. config_in p.value ≡ policy (plain_workload c.now) base.now.items) }
 {
     let sites = site_count(c.workload());
-    let parts = parts_after(alloc, c, last, base)?;
-    let template = template_after(alloc, c, last, base, parts.as_slice(), sites)?;
-    object_plan(alloc, c, base, parts, template)
+    let made = parts_after(alloc, c, last, base)?;
+    let template = outline_after(alloc, c, last, base, &made, sites)?;
+    object_plan(alloc, c, base, made.parts, template)
 }
 
 /// The plan of what the forms bring at a base, and of the template of that.
@@ -121,13 +121,12 @@ fn object_plan(
     c: &Compiled,
     base: &Database,
     parts: List<Arc<PlanPart>>,
-    template: Template,
+    template: SharedTemplate,
 ) -> Result<Arc<ObjectPlan>, Memory>
     requires accepted { IsAccepted (plain_workload c.now) }
     requires within { IsWithin (schema_of (plain_workload c.now)) base.now.items }
     requires parts { AreParts (plain_workload c.now) base.now.items parts.items }
-    requires sites { template.sites ≡ sites_of (plain_workload c.now) }
-    requires template { expanded_template template.sites (plain_template template) ≡ template_at (plain_workload c.now) base.now.items }
+    requires template { IsTemplateAt (plain_workload c.now) base.now.items template }
     ensures plan { IfOk result (λ p. IsObjectPlan (plain_workload c.now) base.now.items p.value) }
     ensures policy { IfOk result (λ p. config_in p.value ≡ policy (plain_workload c.now) base.now.items) }
 {
@@ -136,7 +135,8 @@ fn object_plan(
     let plan = ObjectPlan {
         base: List::from_vec(values),
         parts,
-        template,
+        outline: template.outline,
+        slacks: template.slacks,
         bounds,
     };
     Ok(Arc::new(alloc, plan)?)
@@ -158,18 +158,23 @@ fn template_of(alloc: Global, c: &Compiled, base: &Database, sites: u32) -> Resu
 }
 
 /// The bounds, by the sites' weights, of a template over whole objects; without weights none, as they are even.
-fn bounds_by_weights(alloc: Global, c: &Compiled, t: &Template) -> Result<Option<Config>, Memory>
-    requires sites { t.now.sites ≡ sites_of (plain_workload c.now) }
-    requires not_negative { HaveSlack (expanded_template t.now.sites (plain_template t.now)).clauses }
-    requires small { Each (λ c. IsSmall form_limit c.slack) (expanded_template t.now.sites (plain_template t.now)).clauses }
-    ensures { let clauses = (expanded_template t.now.sites (plain_template t.now)).clauses in IfOk result (λ bounds.
-        config_or (even t.now.sites clauses) bounds ≡ split_by (shares_of (plain_workload c.now)) clauses) }
+fn bounds_by_weights(
+    alloc: Global,
+    c: &Compiled,
+    t: &SharedTemplate,
+) -> Result<Option<Config>, Memory>
+    requires sites { t.now.outline.value.sites ≡ sites_of (plain_workload c.now) }
+    requires not_negative { HaveSlack (spread t.now).clauses }
+    requires small { Each (λ c. IsSmall form_limit c.slack) (spread t.now).clauses }
+    ensures { let clauses = (spread t.now).clauses in IfOk result (λ bounds.
+        config_or (even t.now.outline.value.sites clauses) bounds ≡ split_by (shares_of (plain_workload c.now)) clauses) }
 {
     if c.workload().workload().weights.as_slice().is_empty() {
         return Ok(None);
     }
-    let spread = at_sites(alloc, t)?;
-    let bounds = split_by_weights(alloc, c, &spread)?;
+    let whole = whole_template(alloc, &t.outline, t.slacks.as_slice())?;
+    let template = at_sites(alloc, &whole)?;
+    let bounds = split_by_weights(alloc, c, &template)?;
     Ok(Some(bounds))
 }
 

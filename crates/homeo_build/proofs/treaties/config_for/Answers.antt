@@ -4,7 +4,7 @@ use Rattle.homeo_syntax.specs.SourceView.{plain_workload}
 use Rattle.homeo_plan.specs.Config.{split_by}
 use Rattle.homeo_plan.specs.PlanView.{plain_template}
 use Rattle.homeo_plan.specs.Planned.{shares_of}
-use Rattle.homeo_follow.specs.Key.{definitions}
+use Rattle.homeo_outline.specs.Key.{definitions}
 use Rattle.homeo_outline.specs.ObjectPlan.{config_or}
 use Rattle.homeo_build.proofs.treaties.config_for.Goals as goal
 

@@ -1,24 +1,9 @@
--- The workload is the accepted one, and so are its sites; the template is made of the parts, or of the template of the last plan.
-use Rattle.std.proofs.Common.{ap, sym, subst, ◌∙◌}
+-- The workload is the accepted one, and so are its sites.
+use Rattle.std.proofs.Common.{ap, ◌∙◌}
 use Rattle.homeo_syntax.specs.SourceView.{plain_workload}
 use Rattle.homeo_syntax.specs.declared.workload.Workload.{Workload}
-use Rattle.homeo_plan.specs.PlanView.{plain_template}
 use Rattle.homeo_plan.specs.Planned.{sites_of}
-use Rattle.homeo_follow.specs.ObjectTemplate.{expanded_template}
-use Rattle.homeo_build.specs.Plan.{AreParts}
 use Rattle.homeo_build.proofs.treaties.plan_after.Goals as goal
 
-pub template_after-requires-clause-parts : goal.template_after-requires-clause-parts
-template_after-requires-clause-parts c =
-    subst (AreParts (plain_workload c.args.c.now) c.args.base.now.items) (sym c.as_slice.ensures) c.in_ok-parts.ensures
-
-pub template_after-requires-clause-sites : goal.template_after-requires-clause-sites
-template_after-requires-clause-sites c = c.site_count-sites.ensures.sites ∙ ap (λ (v : Workload). sites_of (plain_workload v)) c.workload.ensures
-
-pub object_plan-requires-clause-sites : goal.object_plan-requires-clause-sites
-object_plan-requires-clause-sites c =
-    c.in_ok-template.ensures.sites ∙ c.site_count-sites.ensures.sites ∙ ap (λ (v : Workload). sites_of (plain_workload v)) c.workload.ensures
-
-pub object_plan-requires-clause-template : goal.object_plan-requires-clause-template
-object_plan-requires-clause-template c =
-    ap (λ k. expanded_template k (plain_template c.in_ok-template.template)) c.in_ok-template.ensures.sites ∙ c.in_ok-template.ensures.template
+pub outline_after-requires-clause-sites : goal.outline_after-requires-clause-sites
+outline_after-requires-clause-sites c = c.site_count-sites.ensures.sites ∙ ap (λ (v : Workload). sites_of (plain_workload v)) c.workload.ensures
