@@ -11,8 +11,7 @@ use Rattle.homeo_plan.specs.Joined.{Deltas}
 use Rattle.homeo_plan.specs.Template.{Clause}
 use Rattle.homeo_plan.specs.Config.{Config}
 use Rattle.homeo_plan.specs.Treaty.{site_sum, bound_at, KeepsClauses, KeepsFreezes, broken_freeze, broken_from}
-use Rattle.homeo_effect.specs.Key.{definitions as effect_definitions}
-use Rattle.homeo_effect.specs.Touched.{numbers_where}
+use Rattle.homeo_outline.specs.Numbers.{numbers_where}
 use Rattle.homeo_site.specs.Key.{definitions}
 use Rattle.homeo_site.specs.inner.Failures.{sum_failure, frozen_failure, freeze_failure, freeze_failure_from, failure_from, first_of, first_failure}
 
@@ -74,7 +73,7 @@ module _ (i : ℕ) (x y : Deltas) (p : Clause → Bool) (q : Delta → Bool) (f 
   freezes_first :
       (n : ℕ) (ds : List Delta) → ((m : ℕ) → f (n + m) ≡ freeze_failure_from n i y ds m) → KeepsFreezes i x ds → SameFreezes ds →
       first_failure f (numbers_where q n ds) ≡ broken_freeze n i y ds
-  unfolding definitions plan_definitions effect_definitions
+  unfolding definitions plan_definitions
   freezes_first n [] agree keeps same = refl
   freezes_first n (d ∷ ds) agree keeps same =
       go (q d) refl (freezes_first (suc n) ds (λ m. next m ∙ agree (suc m)) keeps.1 same.1)
@@ -98,7 +97,7 @@ module _ (i : ℕ) (x y : Deltas) (p : Clause → Bool) (q : Delta → Bool) (f 
       (n : ℕ) (cs : List Clause) (bs : Config) (ds : List Delta) → ((m : ℕ) → f (n + m) ≡ failure_from n i y cs bs ds m) →
       KeepsClauses i x cs bs → KeepsFreezes i x ds → SameClauses cs → SameFreezes ds →
       first_failure f (numbers_where p n cs ++ numbers_where q (n + length cs) ds) ≡ broken_from n i y cs bs ds
-  unfolding definitions plan_definitions effect_definitions
+  unfolding definitions plan_definitions
   clauses_first n [] bs ds agree keeps frozen same same' =
       let e : n + 0 ≡ n = omega arith in
       ap (λ m. first_failure f (numbers_where q m ds)) e ∙ freezes_first n ds agree frozen same'

@@ -14,6 +14,7 @@ pub mod OwnSums
 pub mod OwnTerms
 pub mod PartsMade
 pub mod PlanCalls
+pub mod PlanClauses
 pub mod SiteAttempts
 pub mod SiteRooms
 pub mod SiteViews

@@ -1,22 +1,22 @@
--- What a site checks of a plan's clauses, with its own bounds, is what the treaty says of its deltas.
-use Rattle.std.proofs.Common.{◌≡◌, ℕ, suc, ◌+◌, ◌<◌, ◌≤◌, List, [], ◌∷◌, map, length, ℤ, All, true, false, Option, Some, None, is_some, refl, sym, ap, ap₂, ◌∙◌, subst}
-use Rattle.std.proofs.lemmas.List.{length-map}
+-- What a site checks of a plan's clauses is what the treaty says of its deltas.
+use Rattle.std.proofs.Common.{◌≡◌, ℕ, ◌+◌, ◌<◌, ◌≤◌, List, [], map, length, get_or, ℤ, pos, ◌≤ℤ◌, int_le, All, true, false, cond, Option, Some, None, is_some, refl, sym, ap, ◌∙◌, subst, arith}
+use Rattle.std.proofs.lemmas.Int.{ints}
+use Rattle.std.proofs.lemmas.List.{length-map, get_or-map}
+use Rattle.homeo_syntax.specs.Listed.{Listed}
 use Rattle.homeo_plan.specs.declared.treaty.Broken.{Broken}
-use Rattle.homeo_plan.specs.Template.{Clause}
-use Rattle.homeo_plan.specs.PlanView.{plain_clause}
 use Rattle.homeo_plan.specs.declared.forms.Delta.{Delta}
-use Rattle.homeo_plan.specs.declared.templates.Clause as clause
-use Rattle.homeo_plan.specs.Config.{Config}
+use Rattle.homeo_plan.specs.declared.forms.Term.{Term}
+use Rattle.homeo_plan.specs.Joined.{Deltas}
+use Rattle.homeo_plan.specs.Treaty.{bound_at}
 use Rattle.homeo_follow.specs.Key.{definitions as follow_definitions}
+use Rattle.homeo_outline.specs.Key.{definitions as outline_definitions}
 use Rattle.homeo_outline.specs.ObjectPlan.{template_in, config_in}
-use Rattle.homeo_follow.specs.ObjectTemplate.{expanded_clause}
 use Rattle.homeo_outline.specs.declared.plan.ObjectPlan.{ObjectPlan}
-use Rattle.homeo_effect.specs.Indexed.{Indexed}
 use Rattle.homeo_site.specs.Key.{definitions}
-use Rattle.homeo_site.specs.inner.Failures.{first_of}
-use Rattle.homeo_site.specs.inner.Parts.{with_bounds, IsOwnTreaty}
-use Rattle.homeo_site.specs.OwnTreaty.{OwnClause, own_clauses}
-use Rattle.homeo_site.proofs.OwnTerms.{with_own_bounds}
+use Rattle.homeo_site.specs.inner.Failures.{sum_failure, first_of, own_failure}
+use Rattle.homeo_site.specs.inner.Parts.{own_term}
+use Rattle.homeo_site.specs.OwnTreaty.{OwnClause, own_sum, SumsFit, own_clauses}
+use Rattle.homeo_site.proofs.PlanClauses.{template_count, own_is, own_count}
 
 -- ---- the first of two
 first_is : (a b : Option Broken) → is_some a ≡ true → a ≡ first_of a b
@@ -34,49 +34,62 @@ second_is None b e = refl
 second_is (Some f) b e = cc
 
 -- ---- the template of a plan
-pub template_count :
-    (p : ObjectPlan) (cs : List clause.Clause) → cs ≡ p.template.clauses.items → length cs ≡ length (template_in p).clauses
-unfolding follow_definitions
-template_count p cs same =
-    let clauses = p.template.clauses.items in
-    ap length same ∙ sym (length-map (map plain_clause clauses) (expanded_clause p.template.sites) ∙ length-map clauses plain_clause)
+module _ (p : ObjectPlan) where
+  pub lent_count : (ls : List (Listed Term)) → map (λ (l : Listed Term). l.items) ls ≡ p.outline.value.terms → length ls ≡ length (template_in p).clauses
+  lent_count ls same = sym (length-map ls (λ (l : Listed Term). l.items)) ∙ ap length same ∙ sym (template_count p)
 
-pub template_freezes : (p : ObjectPlan) (ds : List Delta) → ds ≡ p.template.freezes.items → ds ≡ (template_in p).freezes
-unfolding follow_definitions
-template_freezes p ds same = same
+  pub template_freezes : (ds : List Delta) → ds ≡ p.outline.value.freezes → ds ≡ (template_in p).freezes
+  unfolding follow_definitions outline_definitions
+  template_freezes ds same = same
 
--- what is frozen has its numbers after those of the clauses
-pub freezes_there :
-    (p : ObjectPlan) (cs : List clause.Clause) (ds : List Delta) (ns : List ℕ) → cs ≡ p.template.clauses.items → ds ≡ p.template.freezes.items →
-    All (λ n. (length (template_in p).clauses ≤ n) × (n < length (template_in p).clauses + length (template_in p).freezes)) ns →
-    All (λ n. (length cs ≤ n) × (n < length cs + length ds)) ns
-freezes_there p cs ds ns clauses freezes h =
-    subst (λ (l : List Delta). All (λ n. (length cs ≤ n) × (n < length cs + length l)) ns) (sym (template_freezes p ds freezes))
-    (subst (λ m. All (λ n. (m ≤ n) × (n < m + length (template_in p).freezes)) ns) (sym (template_count p cs clauses)) h)
+  -- what is frozen has its numbers after those of the clauses
+  pub freezes_there :
+      (ls : List (Listed Term)) (ds : List Delta) (ns : List ℕ) → map (λ (l : Listed Term). l.items) ls ≡ p.outline.value.terms →
+      ds ≡ p.outline.value.freezes →
+      All (λ n. (length (template_in p).clauses ≤ n) × (n < length (template_in p).clauses + length (template_in p).freezes)) ns →
+      All (λ n. (length ls ≤ n) × (n < length ls + length ds)) ns
+  freezes_there ls ds ns clauses freezes h =
+      subst (λ (l : List Delta). All (λ n. (length ls ≤ n) × (n < length ls + length l)) ns) (sym (template_freezes ds freezes))
+      (subst (λ m. All (λ n. (m ≤ n) × (n < m + length (template_in p).freezes)) ns) (sym (lent_count ls clauses)) h)
 
--- ---- what a site checks of the clauses of a plan, with its bounds
-own_count : (i : ℕ) (cs : List Clause) (bs : Config) → length (own_clauses i cs bs) ≡ length cs
-unfolding definitions
-own_count i [] bs = refl
-own_count i (c ∷ cs) [] = ap suc (own_count i cs [])
-own_count i (c ∷ cs) (b ∷ bs) = ap suc (own_count i cs bs)
-
+-- ---- the clause of a number, by its terms as they are lent
 module _
-    (p : ObjectPlan) (i : ℕ) (own : List ℤ) (x : Indexed) (kept : IsOwnTreaty p i own x) (cs : List clause.Clause) (bs : List ℤ)
-    (same : cs ≡ p.template.clauses.items) (bounds : bs ≡ own)
+    (p : ObjectPlan) (i n : ℕ) (site : i < p.outline.value.sites) (within : n < length (template_in p).clauses) (ls : List (Listed Term))
+    (lent : map (λ (l : Listed Term). l.items) ls ≡ p.outline.value.terms) (l : Listed Term) (there : l ≡ get_or ls n l)
+    (ts : List Term) (terms : ts ≡ l.items)
   where
-    pub bounds_count : length bs ≡ length cs
+    abbrev cs : List OwnClause
+    cs = own_clauses i (template_in p).clauses (config_in p)
+
+    abbrev bound : ℤ
+    bound = bound_at (get_or (config_in p) n []) i
+
+    terms_there : ts ≡ get_or p.outline.value.terms n []
+    terms_there =
+        let lt : n < length ls = subst (λ m. n < m) (sym (lent_count p ls lent)) within in
+        terms ∙ ap (λ (m : Listed Term). m.items) there ∙ sym (get_or-map (λ (m : Listed Term). m.items) ls n l [] lt)
+        ∙ ap (λ tss. get_or tss n []) lent
+
+    clause_is : (d : OwnClause) → get_or cs n d ≡ record { terms = map own_term ts; bound = bound }
+    clause_is d =
+        own_is p n within i site d
+        ∙ ap (λ us. record { terms = map own_term us; bound = bound }) (sym terms_there)
+
+    -- its sums fit where those of all do
+    pub clause_fits : (x : Deltas) → All (λ (o : OwnClause). SumsFit o.terms x) cs → SumsFit (map own_term ts) x
+    clause_fits x fit =
+        let none : OwnClause = record { terms = []; bound = pos 0 } in
+        subst (λ (o : OwnClause). SumsFit o.terms x) (clause_is none)
+        (fit n none (subst (λ m. n < m) (sym (own_count i (template_in p).clauses (config_in p))) within))
+
+    -- what fails of it
+    pub clause_fails : (x : Deltas) → own_failure cs x n ≡ sum_failure n (own_sum (map own_term ts) x) bound
     unfolding definitions
-    bounds_count =
-        ap length (bounds ∙ kept.bounds)
-        ∙ length-map (own_clauses i (template_in p).clauses (config_in p)) (λ (c : OwnClause). c.bound)
-        ∙ own_count i (template_in p).clauses (config_in p) ∙ sym (template_count p cs same)
+    clause_fails x = ap (λ (o : OwnClause). sum_failure n (own_sum o.terms x) o.bound) (clause_is (record { terms = []; bound = pos 0 }))
 
-    pub numbers_there : (ns : List ℕ) → All (λ n. n < length (template_in p).clauses) ns → All (λ n. n < length cs) ns
-    numbers_there ns h = subst (λ m. All (λ n. n < m) ns) (sym (template_count p cs same)) h
-
-    pub checks_own : with_bounds cs bs ≡ own_clauses i (template_in p).clauses (config_in p)
-    unfolding follow_definitions
-    checks_own =
-        ap₂ with_bounds same (bounds ∙ kept.bounds)
-        ∙ with_own_bounds p.template.sites i kept.site p.template.clauses.items (config_in p)
+    -- nothing does where the sum is at most the bound
+    pub nothing_fails : (x : Deltas) (sum : ℤ) → sum ≡ own_sum (map own_term ts) x → sum ≤ℤ bound → None ≡ own_failure cs x n
+    unfolding definitions
+    nothing_fails x sum is h =
+        let le : int_le sum bound ≡ true = grind (arith, ints, h) in
+        sym (clause_fails x ∙ ap (λ z. sum_failure n z bound) (sym is) ∙ ap (λ v. cond v None (Some (record { clause = n; sum = sum; bound = bound }))) le)

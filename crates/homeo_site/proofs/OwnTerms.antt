@@ -1,25 +1,23 @@
 -- The terms of a site, their sums, and its bounds, one clause after another.
-use Rattle.std.proofs.Common.{◌≡◌, ℕ, zero, suc, ◌+◌, ◌<◌, ◌≤◌, ◌==◌, Bool, true, false, cond, List, [], ◌∷◌, ◌++◌, length, get_or, map, take, ℤ, pos, ◌+ℤ◌, ◌*ℤ◌, refl, sym, ap, ap₂, ◌∙◌, subst, FitsSigned, arith}
+use Rattle.std.proofs.Common.{◌≡◌, ℕ, zero, suc, ◌+◌, ◌*◌, ◌/◌, ◌<◌, ◌≤◌, ◌==◌, Bool, true, false, cond, List, [], ◌∷◌, ◌++◌, length, get_or, map, take, ℤ, pos, negsuc, ◌+ℤ◌, ◌*ℤ◌, ◌≤ℤ◌, refl, sym, ap, ap₂, ◌∙◌, subst, FitsSigned, arith}
 use Rattle.std.proofs.lemmas.Int.{ints}
 use Rattle.std.specs.Int.{w128}
 use Rattle.std.specs.Prelude.{replicate}
+use Rattle.std.proofs.Math.Nat.{add-mul, div-mul-le_self}
 use Rattle.std.proofs.Math.Seq.{take-length}
 use Rattle.std.proofs.lemmas.List.{map_more, take-map, get_or-map, length-map}
+use Rattle.std.proofs.lemmas.Nat.{le-div}
 use Rattle.homeo_syntax.specs.Listed.{Listed}
 use Rattle.homeo_plan.specs.Key.{definitions as plan_definitions}
 use Rattle.homeo_plan.specs.declared.forms.Term.{Term}
 use Rattle.homeo_plan.specs.Joined.{Deltas}
-use Rattle.homeo_plan.specs.Config.{Config, split, even}
-use Rattle.homeo_plan.specs.PlanView.{plain_clause}
+use Rattle.homeo_plan.specs.Config.{split, even}
 use Rattle.homeo_plan.specs.Template.{Clause}
 use Rattle.homeo_plan.specs.Treaty.{site_sum, bound_at}
-use Rattle.homeo_plan.specs.declared.templates.Clause as code
-use Rattle.homeo_follow.specs.Key.{definitions as follow_definitions}
-use Rattle.homeo_follow.specs.ObjectTemplate.{expanded_clause}
+use Rattle.homeo_config.proofs.EvenBounds.{even_bound_is}
 use Rattle.homeo_site.specs.Key.{definitions}
-use Rattle.homeo_site.specs.OwnTreaty.{OwnTerm, own_terms, own_sum, SumsFit, own_clauses}
-use Rattle.homeo_site.specs.inner.Parts.{own_term, own_bounds, with_bounds}
-use Rattle.homeo_site.proofs.ObjectTerms.{own_all}
+use Rattle.homeo_site.specs.OwnTreaty.{OwnTerm, own_terms, own_sum, SumsFit}
+use Rattle.homeo_site.specs.inner.Parts.{own_term}
 
 -- a site's sum is that of its own terms
 pub own_sum_is : (i : ℕ) (ts : List Term) (x : Deltas) → own_sum (own_terms i ts) x ≡ site_sum i ts x
@@ -100,51 +98,25 @@ no_bound bs ks n i same le =
     ∙ ap (λ l. get_or (get_or (map (λ (l : Listed ℤ). l.items) l) n []) i (pos 0)) same
 
 -- ---- bounds of a slack that is split evenly
-even_at :
-    (k : ℕ) (cs : List code.Clause) (n : ℕ) (d : code.Clause) → n < length cs →
-    get_or (even k (map (expanded_clause k) (map plain_clause cs))) n [] ≡ split (replicate k 1) (get_or cs n d).slack
-unfolding plan_definitions follow_definitions
+pub even_at :
+    (k : ℕ) (cs : List Clause) (n : ℕ) (d : Clause) → n < length cs → get_or (even k cs) n [] ≡ split (replicate k 1) (get_or cs n d).slack
+unfolding plan_definitions
 even_at k [] n d lt = absurd (omega arith)
 even_at k (c ∷ cs) zero d lt = refl
 even_at k (c ∷ cs) (suc n) d lt = even_at k cs n d (omega arith)
 
-pub even_there :
-    (k i : ℕ) (cs : List code.Clause) (n : ℕ) (c : code.Clause) (slack bound : ℤ) → n < length cs → c ≡ get_or cs n c → slack ≡ c.slack →
-    bound ≡ bound_at (split (replicate k 1) slack) i →
-    bound ≡ bound_at (get_or (even k (map (expanded_clause k) (map plain_clause cs))) n []) i
-even_there k i cs n c slack bound lt at same is =
-    is ∙ ap (λ z. bound_at (split (replicate k 1) z) i) (same ∙ ap (λ (d : code.Clause). d.slack) at)
-    ∙ ap (λ b. bound_at b i) (sym (even_at k cs n c lt))
-
--- ---- a site's bounds
-own_bound_more :
-    (i : ℕ) (cs : List Clause) (bs : Config) (n : ℕ) → n < length cs →
-    own_bounds i (take (suc n) cs) bs ≡ own_bounds i (take n cs) bs ++ bound_at (get_or bs n []) i ∷ []
-unfolding definitions plan_definitions
-own_bound_more i [] bs n lt = absurd (omega arith)
-own_bound_more i (c ∷ cs) [] zero lt = refl
-own_bound_more i (c ∷ cs) (b ∷ bs) zero lt = refl
-own_bound_more i (c ∷ cs) [] (suc n) lt = ap (λ bounds. pos 0 ∷ bounds) (own_bound_more i cs [] n (omega arith))
-own_bound_more i (c ∷ cs) (b ∷ bs) (suc n) lt = ap (λ bounds. bound_at b i ∷ bounds) (own_bound_more i cs bs n (omega arith))
-
-pub bound_pushed :
-    (i : ℕ) (cs : List Clause) (bs : Config) (n : ℕ) (one : ℤ) (old new : List ℤ) → n < length cs →
-    old ≡ own_bounds i (take n cs) bs → one ≡ bound_at (get_or bs n []) i → new ≡ old ++ one ∷ [] →
-    new ≡ own_bounds i (take (n + 1) cs) bs
-bound_pushed i cs bs n one old new lt so_far bound e =
-    e ∙ ap₂ (λ bounds z. bounds ++ z ∷ []) so_far bound ∙ sym (own_bound_more i cs bs n lt) ∙ ap (λ m. own_bounds i (take m cs) bs) next
-  where
-    next : suc n ≡ n + 1
-    next = omega arith
-
--- clauses over whole objects with these bounds are those that a site keeps of all its deltas' clauses
-pub with_own_bounds :
-    (k i : ℕ) → i < k → (cs : List code.Clause) (bs : Config) →
-    with_bounds cs (own_bounds i (map (expanded_clause k) (map plain_clause cs)) bs) ≡
-    own_clauses i (map (expanded_clause k) (map plain_clause cs)) bs
-unfolding definitions plan_definitions follow_definitions
-with_own_bounds k i lt [] bs = refl
-with_own_bounds k i lt (c ∷ cs) [] =
-    ap₂ (λ ts os. record { terms = ts; bound = pos 0 } ∷ os) (sym (own_all k i lt c.terms.items)) (with_own_bounds k i lt cs [])
-with_own_bounds k i lt (c ∷ cs) (b ∷ bs) =
-    ap₂ (λ ts os. record { terms = ts; bound = bound_at b i } ∷ os) (sym (own_all k i lt c.terms.items)) (with_own_bounds k i lt cs bs)
+-- a sum that all sites may have is at most the bound of each
+pub within_even :
+    (k i : ℕ) (slack sum : ℤ) → i < k → pos 0 ≤ℤ slack → (sum *ℤ pos k) ≤ℤ slack → sum ≤ℤ bound_at (split (replicate k 1) slack) i
+within_even k i (negsuc s) sum lt room h = absurd (omega (arith, ints))
+within_even k i (pos s) (negsuc m) lt room h =
+    let bound = even_bound_is k i s (s * i / k) (s * (i + 1) / k) (pos s) lt refl refl refl in
+    subst (λ z. negsuc m ≤ℤ z) bound (omega (arith, ints))
+within_even k i (pos s) (pos m) lt room h =
+    let bound = even_bound_is k i s (s * i / k) (s * (i + 1) / k) (pos s) lt refl refl refl in
+    let all : m * k ≤ s = omega (arith, ints, h) in
+    let below : s * i / k * k ≤ s * i = div-mul-le_self (s * i) k in
+    let both : (s * i / k + m) * k ≡ s * i / k * k + m * k = add-mul (s * i / k) m k in
+    let next : s * (i + 1) ≡ s * i + s = grind arith in
+    let part : s * i / k + m ≤ s * (i + 1) / k = le-div (s * i / k + m) (s * (i + 1)) k (omega arith) (omega (arith, all, below, both, next)) in
+    subst (λ z. pos m ≤ℤ z) bound (omega (arith, ints, part))

@@ -5,12 +5,10 @@ use Rattle.std.specs.declared.result.Result.TheVariants.{Ok, Err}
 use Rattle.homeo_syntax.specs.Source.{Workload}
 use Rattle.homeo_meaning.specs.Acceptance.{IsAccepted}
 use Rattle.homeo_plan.specs.Planned.{sites_of, policy}
-use Rattle.homeo_plan.specs.PlanView.{plain_template}
-use Rattle.homeo_follow.specs.Key.{definitions as follow_definitions}
-use Rattle.homeo_outline.specs.ObjectPlan.{template_in, config_in}
+use Rattle.homeo_outline.specs.Key.{definitions as outline_definitions}
+use Rattle.homeo_outline.specs.ObjectPlan.{template_in, template_with, config_in}
 use Rattle.homeo_outline.specs.declared.plan.ObjectPlan.{ObjectPlan}
 use Rattle.homeo_build.specs.Plan.{IsObjectPlan}
-use Rattle.homeo_build.proofs.FewFreezes.{object_plan_few}
 use Rattle.homeo_build.proofs.PlanParts.{has_object_slack, small_object_slacks}
 use Rattle.homeo_site.specs.Key.{definitions}
 use Rattle.homeo_site.specs.OwnCalls.{AreOwnCalls}
@@ -28,14 +26,14 @@ part_of_plan w p i plan bounds = λ k. record { site = i; template = plan.templa
 
 -- each site of an accepted workload can keep its part
 pub can_keep : (w : Workload) (p : ObjectPlan) (i : ℕ) → IsAccepted w → i < sites_of w → IsObjectPlan w p.base.items p → CanKeep p i
-unfolding follow_definitions
+unfolding outline_definitions
 can_keep w p i accepted site plan =
-    let t = plain_template p.template in
+    let k = p.outline.value.sites in
+    let t = template_with p.outline.value p.slacks.items in
     record {
-      site = subst (λ k. i < k) (sym plan.sites) site;
-      few = object_plan_few w p.base.items p accepted plan;
-      not_negative = has_object_slack w p.base.items p.template.sites t plan.template;
-      small = small_object_slacks w p.base.items p.template.sites t plan.template accepted plan.within;
+      site = subst (λ n. i < n) (sym plan.sites) site;
+      not_negative = has_object_slack w p.base.items k t plan.template;
+      small = small_object_slacks w p.base.items k t plan.template accepted plan.within;
     }
 
 pub are_parts :

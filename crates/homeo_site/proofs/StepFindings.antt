@@ -22,8 +22,9 @@ use Rattle.homeo_plan.proofs.PlannedCalls.{planned_member}
 use Rattle.homeo_plan.proofs.Replays.{planned_whole}
 use Rattle.homeo_plan.proofs.Straight.{walk_straight}
 use Rattle.homeo_plan.proofs.Tables.{row_at_walk}
+use Rattle.homeo_outline.specs.Numbers.{numbers_where}
 use Rattle.homeo_effect.specs.Key.{definitions as effect_definitions}
-use Rattle.homeo_effect.specs.Touched.{written, numbers_where, is_touched, is_among, touched_clauses, touched_freezes}
+use Rattle.homeo_effect.specs.Touched.{written, is_touched, is_among, touched_clauses, touched_freezes}
 use Rattle.homeo_effect.proofs.Untouched.{clause_stays, own_delta_stays}
 use Rattle.homeo_history.specs.Key.{definitions as history_definitions}
 use Rattle.homeo_history.specs.Legal.{IsCallAt}
@@ -39,7 +40,6 @@ use Rattle.homeo_site.proofs.OwnTerms.{own_sum_is}
 -- ---- numbers of a list
 pub within_numbers :
     {X : Type 0} (test : X → Bool) (n : ℕ) (xs : List X) → All (λ m. (n ≤ m) × (m < n + length xs)) (numbers_where test n xs)
-unfolding effect_definitions
 within_numbers test n [] = All-nil (λ m. (n ≤ m) × (m < n + 0))
 within_numbers test n (x ∷ xs) = go (test x) (wider (numbers_where test (suc n) xs) (within_numbers test (suc n) xs))
   where

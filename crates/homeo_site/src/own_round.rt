@@ -14,8 +14,8 @@ ghost use Rattle.homeo_site.specs.inner.Parts.{CanKeep};
 use crate::own_calls::{OwnCall, OwnCalls};
 use crate::own_treaty::OwnTreaty;
 use homeo_build::Compiled;
-use homeo_outline::ObjectPlan;
 use homeo_meaning::CallId;
+use homeo_outline::ObjectPlan;
 use homeo_syntax::Memory;
 use std::alloc::Global;
 use std::marker::Model;
@@ -76,7 +76,7 @@ impl OwnParts {
         }) }
         ensures calls { (base : List ℤ) → IfOk result (λ o. AreOwnCalls (plain_workload compiled.now) base o.calls) }
     {
-        let treaty = OwnTreaty::of(alloc, plan, site)?;
+        let treaty = OwnTreaty::of(plan, site)?;
         let calls = OwnCalls::new(alloc, compiled)?;
         Ok(OwnParts {
             treaty: Arc::new(alloc, treaty)?,

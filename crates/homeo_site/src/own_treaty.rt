@@ -1,21 +1,22 @@
-//! A site's part of a treaty: the plan, the site's own bounds, and which clauses and freezes stand on each of its deltas.
+//! A site's part of a treaty: the plan, and which clauses and freezes stand on each of the site's deltas.
 
-ghost use Rattle.std.specs.Prelude.{◌≡◌, ◌+◌, ◌<◌, ◌≤◌, ◌+ℤ◌, ◌*ℤ◌, [], All, length, map, slice_index_or, IfOk, FitsSigned};
+ghost use Rattle.std.specs.Prelude.{◌≡◌, ◌+◌, ◌<◌, ◌≤◌, ◌+ℤ◌, ◌*ℤ◌, ◌≤ℤ◌, ℕ, pos, [], All, IsTrue, length, map, slice_index_or, IfOk, FitsSigned};
 ghost use Rattle.std.specs.Int.{w128};
 ghost use Rattle.homeo_meaning.specs.Serial.{values_of};
+ghost use Rattle.homeo_plan.specs.Config.{HaveSlack};
 ghost use Rattle.homeo_plan.specs.PlanView.{plain_config};
 ghost use Rattle.homeo_plan.specs.Treaty.{bound_at};
-ghost use Rattle.homeo_outline.specs.ObjectPlan.{template_in, config_in};
+ghost use Rattle.homeo_outline.specs.ObjectPlan.{template_in, config_in, template_with};
 ghost use Rattle.homeo_site.specs.inner.Failures.{sum_failure, freeze_failure, first_of, first_failure, own_failure, own_freeze_failure};
-ghost use Rattle.homeo_site.specs.inner.Parts.{own_term, own_bounds, with_bounds, CanKeep};
+ghost use Rattle.homeo_site.specs.inner.Parts.{own_term, CanKeep};
 ghost use Rattle.homeo_site.specs.OwnTreaty.{own_sum, SumsFit, own_clauses};
 
 use homeo_config::even_bound;
 use homeo_effect::TreatyIndex;
-use homeo_outline::ObjectPlan;
 use homeo_meaning::padded::item_or;
-use homeo_plan::{Broken, Clause, Config, Delta, Term};
-use homeo_syntax::{List, Memory};
+use homeo_outline::ObjectPlan;
+use homeo_plan::{Broken, Config, Delta, Term};
+use homeo_syntax::Memory;
 use std::alloc::Global;
 use std::marker::Model;
 use std::sync::Arc;
@@ -32,31 +33,45 @@ fn bound_of(config: &Config, clause: usize, site: u32) -> i128
     }
 }
 
+/// The slack of a clause of a plan, by the clause's number.
+fn slack_of(plan: &ObjectPlan, clause: usize) -> i128
+    ensures { result ≡ slice_index_or plan.now.slacks.items clause (pos 0) }
+{
+    item_or(plan.slacks.as_slice(), clause, 0)
+}
+
 /// The bound of a site in a clause of a plan, by the clause's number: the given one, or else that of a slack split evenly.
 fn own_bound(plan: &ObjectPlan, clause: usize, site: u32) -> i128
     requires keeps { CanKeep plan.now site }
-    requires clause { clause < length plan.now.template.clauses.items }
+    requires clause { clause < length (template_in plan.now).clauses }
     ensures { result ≡ bound_at (slice_index_or (config_in plan.now) clause []) site }
 {
-    let clauses = plan.template.clauses.as_slice();
     match &plan.bounds {
-        None => even_bound(clauses[clause].slack, plan.template.sites, site),
+        None => even_bound(slack_of(plan, clause), plan.outline.sites(), site),
         Some(config) => bound_of(config, clause, site),
     }
 }
 
-/// The bounds of a site in a plan's clauses, one for each.
-#[tactic(auto, unfolding(crate::specs::Key::definitions))]
-fn own_bounds(alloc: Global, plan: &ObjectPlan, site: u32) -> Result<List<i128>, Memory>
-    requires { CanKeep plan.now site }
-    ensures { IfOk result (λ bounds. bounds.items ≡ own_bounds site (template_in plan.now).clauses (config_in plan.now)) }
+/// Whether so many sites may all have this sum: together they have at most the slack. The answer is no where that is out of the range
+/// of i128.
+fn may_all_have(sites: u32, sum: i128, slack: i128) -> bool
+    ensures { IsTrue result → (sum *ℤ pos sites) ≤ℤ slack }
 {
-    let count = plan.template.clauses.as_slice().len();
-    let mut bounds = Vec::with_capacity(alloc, count)?;
-    for clause in 0..count {
-        bounds.push(own_bound(plan, clause, site))?;
+    match sum.checked_mul(i128::from(sites)) {
+        Some(total) => total <= slack,
+        None => false,
     }
-    Ok(List::from_vec(bounds))
+}
+
+/// Whether it shows without a division that a sum is at most the bound of each site in a clause of a plan. Where it doesn't, the sum
+/// may still be.
+fn is_within_each(plan: &ObjectPlan, clause: usize, sum: i128) -> bool
+    requires slack { HaveSlack (template_with plan.now.outline.value plan.now.slacks.items).clauses }
+    requires clause { clause < length (template_in plan.now).clauses }
+    ensures { (site : ℕ) → site < plan.now.outline.value.sites → IsTrue result →
+        sum ≤ℤ bound_at (slice_index_or (config_in plan.now) clause []) site }
+{
+    plan.bounds.is_none() && may_all_have(plan.outline.sites(), sum, slack_of(plan, clause))
 }
 
 /// A sum with one more term's factor times delta.
@@ -82,13 +97,11 @@ fn own_sum(terms: &[Term], deltas: &[i64]) -> i128
     sum
 }
 
-/// What fails of a clause of this number, with these terms: its sum where that is above the bound.
+/// What fails of a clause of this number: a sum that is above the bound.
 #[tactic(auto, unfolding(crate::specs::Key::definitions))]
-fn clause_failure(terms: &[Term], bound: i128, number: u32, deltas: &[i64]) -> Option<Broken>
-    requires { SumsFit (map own_term terms.now) (values_of deltas.now) }
-    ensures { result ≡ sum_failure number (own_sum (map own_term terms.now) (values_of deltas.now)) bound }
+fn sum_failure(number: u32, sum: i128, bound: i128) -> Option<Broken>
+    ensures { result ≡ sum_failure number sum bound }
 {
-    let sum = own_sum(terms, deltas);
     if sum <= bound {
         None
     } else {
@@ -100,21 +113,35 @@ fn clause_failure(terms: &[Term], bound: i128, number: u32, deltas: &[i64]) -> O
     }
 }
 
-/// The first that fails of the clauses of these numbers, where the site has these bounds, one for each clause.
-fn first_clause(
-    clauses: &[Clause],
-    bounds: &[i128],
-    numbers: &[u32],
-    deltas: &[i64],
-) -> Option<Broken>
-    requires bounds { length bounds.now ≡ length clauses.now }
-    requires numbers { All (λ n. n < length clauses.now) numbers.now }
-    requires fit { All (λ c. SumsFit c.terms (values_of deltas.now)) (with_bounds clauses.now bounds.now) }
-    ensures { result ≡ first_failure (own_failure (with_bounds clauses.now bounds.now) (values_of deltas.now)) numbers.now }
+/// What fails of the clause of this number in a plan, at a site with these deltas. The bound is computed only where the sum may be
+/// above it, as that takes a division.
+fn clause_failure(plan: &ObjectPlan, site: u32, number: u32, deltas: &[i64]) -> Option<Broken>
+    requires keeps { CanKeep plan.now site }
+    requires number { number < length (template_in plan.now).clauses }
+    requires fit { All (λ c. SumsFit c.terms (values_of deltas.now))
+        (own_clauses site (template_in plan.now).clauses (config_in plan.now)) }
+    ensures { result ≡ own_failure (own_clauses site (template_in plan.now).clauses (config_in plan.now)) (values_of deltas.now) number }
+{
+    let clause = number as usize;
+    let sum = own_sum(plan.outline.terms()[clause].as_slice(), deltas);
+    if is_within_each(plan, clause, sum) {
+        return None;
+    }
+    let bound = own_bound(plan, clause, site);
+    sum_failure(number, sum, bound)
+}
+
+/// The first that fails of the clauses of these numbers in a plan, at a site with these deltas.
+fn first_clause(plan: &ObjectPlan, site: u32, numbers: &[u32], deltas: &[i64]) -> Option<Broken>
+    requires keeps { CanKeep plan.now site }
+    requires numbers { All (λ n. n < length (template_in plan.now).clauses) numbers.now }
+    requires fit { All (λ c. SumsFit c.terms (values_of deltas.now))
+        (own_clauses site (template_in plan.now).clauses (config_in plan.now)) }
+    ensures { result ≡ first_failure
+        (own_failure (own_clauses site (template_in plan.now).clauses (config_in plan.now)) (values_of deltas.now)) numbers.now }
 {
     for number in numbers {
-        let n = *number as usize;
-        let failure = clause_failure(clauses[n].terms.as_slice(), bounds[n], *number, deltas);
+        let failure = clause_failure(plan, site, *number, deltas);
         if failure.is_some() {
             return failure;
         }
@@ -160,13 +187,12 @@ fn first_freeze(
     None
 }
 
-/// A site's part of the treaty of a round: the plan that all sites share, the site's bound of each clause, and which clauses and
-/// freezes stand on each of the site's deltas.
+/// A site's part of the treaty of a round: the plan that all sites share, and which clauses and freezes stand on each of the site's
+/// deltas.
 #[derive(Drop)]
 pub struct OwnTreaty {
     site: u32,
     plan: Arc<ObjectPlan, Global>,
-    bounds: List<i128>,
     index: TreatyIndex,
 }
 
@@ -183,16 +209,12 @@ impl Model for OwnTreaty {
       config = config_in t.plan.value;
     } };
 
-    ghost invariant = { λ t. IsOwnTreaty t.plan.value t.site t.bounds.items t.index };
+    ghost invariant = { λ t. IsOwnTreaty t.plan.value t.site t.index };
 }
 
 impl OwnTreaty {
-    /// The part of a site, from a round's plan, in about the time and the memory of the plan's length.
-    pub(crate) fn of(
-        alloc: Global,
-        plan: &Arc<ObjectPlan, Global>,
-        site: u32,
-    ) -> Result<OwnTreaty, Memory>
+    /// The part of a site, from a round's plan. It takes no time, and no memory but the shares of the plan.
+    pub(crate) fn of(plan: &Arc<ObjectPlan, Global>, site: u32) -> Result<OwnTreaty, Memory>
         requires { CanKeep plan.now.value site }
         ensures { IfOk result (λ t. t ≡ record {
           site = site;
@@ -200,12 +222,10 @@ impl OwnTreaty {
           config = config_in plan.now.value;
         }) }
     {
-        let bounds = own_bounds(alloc, plan, site)?;
-        let index = TreatyIndex::of(alloc, plan, site)?;
+        let index = TreatyIndex::of(plan, site)?;
         Ok(OwnTreaty {
             site,
             plan: Arc::try_clone(plan)?,
-            bounds,
             index,
         })
     }
@@ -234,15 +254,15 @@ impl OwnTreaty {
             first_of (first_failure (own_failure (own_clauses self.now.site t.clauses self.now.config) (values_of deltas.now)) clauses.now)
             (first_failure (own_freeze_failure (length t.clauses) self.now.site t.freezes (values_of deltas.now)) freezes.now) }
     {
-        let template = &self.plan.template;
-        let all = template.clauses.as_slice();
-        let failure = first_clause(all, self.bounds.as_slice(), clauses, deltas);
+        let plan = &*self.plan;
+        let failure = first_clause(plan, self.site, clauses, deltas);
         if failure.is_some() {
             return failure;
         }
+        let outline = &*plan.outline;
         first_freeze(
-            template.freezes.as_slice(),
-            all.len(),
+            outline.freezes(),
+            outline.terms().len(),
             freezes,
             self.site,
             deltas,

@@ -12,9 +12,9 @@ use crate::attempts::{Change, Outcome, Room};
 use crate::lists::{copy_to_all, empty_copies, empty_prints, zeros};
 use crate::own_round::OwnRound;
 use crate::start::SiteStart;
-use homeo_outline::ObjectPlan;
 use homeo_history::{Entry, Segment};
 use homeo_meaning::{CallId, Database};
+use homeo_outline::ObjectPlan;
 use homeo_syntax::{List, Memory, Prints};
 use std::alloc::Global;
 use std::marker::Model;
@@ -131,9 +131,8 @@ impl Site {
     /// touches, both made at the first attempt of its ground call in the round; and the site's part of the treaty. The call must be one
     /// of a client of this site.
     ///
-    /// The first room in a round makes the site's part of the treaty, in about the time and the memory of the plan's length: of
-    /// each clause the site's bound, and for each of the site's deltas which clauses and freezes stand on it; and a place for each
-    /// ground call.
+    /// The first room in a round makes the site's part of the treaty, in no time and no memory but its shares of the plan, and a place
+    /// for each ground call.
     ///
     /// # Errors
     ///

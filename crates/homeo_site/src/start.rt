@@ -8,9 +8,9 @@ ghost use Rattle.homeo_build.specs.Plan.{IsObjectPlan};
 
 use crate::own_round::OwnRound;
 use homeo_build::Compiled;
-use homeo_outline::ObjectPlan;
 use homeo_history::Segment;
 use homeo_meaning::Database;
+use homeo_outline::ObjectPlan;
 use homeo_syntax::{List, Memory};
 use std::alloc::Global;
 use std::marker::Model;

@@ -1,42 +1,40 @@
 -- What the site checks of the plan's clauses and freezes fails as the treaty does.
 use Rattle.std.proofs.Common.{◌≡◌, All, ◌+◌, ◌<◌, ◌≤◌, length, is_some, sym, ap, ap₂, ◌∙◌, subst}
 use Rattle.homeo_meaning.specs.Serial.{values_of}
+use Rattle.homeo_outline.specs.ObjectPlan.{template_in, config_in}
+use Rattle.homeo_outline.specs.Outlined.{Outlined}
 use Rattle.homeo_outline.specs.declared.plan.ObjectPlan.{ObjectPlan}
 use Rattle.homeo_site.specs.TreatyPart.{TreatyPart}
 use Rattle.homeo_site.specs.inner.Failures.{first_of, first_failure, own_failure, own_freeze_failure}
+use Rattle.homeo_site.specs.inner.Parts.{CanKeep}
 use Rattle.homeo_site.specs.OwnTreaty.{OwnClause, own_clauses, SumsFit}
-use Rattle.homeo_site.proofs.OwnChecks.{bounds_count, numbers_there, checks_own, first_found, second_is, template_count, template_freezes, freezes_there}
+use Rattle.homeo_site.proofs.OwnChecks.{first_found, second_is, lent_count, template_freezes, freezes_there}
 use Rattle.homeo_site.proofs.own_treaty.OwnTreaty.first_failure.Goals as goal
 
-pub first_clause-failure-requires-clause-bounds : goal.first_clause-failure-requires-clause-bounds
-first_clause-failure-requires-clause-bounds c =
-    let in' = c.self.inside in
-    bounds_count in'.plan.value in'.site in'.bounds.items in'.index c.self.invariant c.as_slice-all.result.now c.as_slice.result.now
-    (c.as_slice-all.ensures ∙ ap (λ (q : ObjectPlan). q.template.clauses.items) c.deref.ensures) c.as_slice.ensures
+pub first_clause-failure-requires-clause-keeps : goal.first_clause-failure-requires-clause-keeps
+first_clause-failure-requires-clause-keeps c =
+    subst (λ (q : ObjectPlan). CanKeep q c.self.inside.site) (sym c.deref-plan.ensures) c.self.invariant.keeps
 
 pub first_clause-failure-requires-clause-numbers : goal.first_clause-failure-requires-clause-numbers
 first_clause-failure-requires-clause-numbers c =
-    let in' = c.self.inside in
-    numbers_there in'.plan.value in'.site in'.bounds.items in'.index c.self.invariant c.as_slice-all.result.now c.as_slice.result.now
-    (c.as_slice-all.ensures ∙ ap (λ (q : ObjectPlan). q.template.clauses.items) c.deref.ensures) c.as_slice.ensures c.args.clauses.now
+    subst (λ (q : ObjectPlan). All (λ n. n < length (template_in q).clauses) c.args.clauses.now) (sym c.deref-plan.ensures)
     (subst (λ (v : TreatyPart). All (λ n. n < length v.template.clauses) c.args.clauses.now) (sym c.self.view_is) c.requires.clauses)
 
 pub first_clause-failure-requires-clause-fit : goal.first_clause-failure-requires-clause-fit
 first_clause-failure-requires-clause-fit c =
-    let in' = c.self.inside in
     let x = values_of c.args.deltas.now in
-    let own =
-    checks_own in'.plan.value in'.site in'.bounds.items in'.index c.self.invariant c.as_slice-all.result.now c.as_slice.result.now
-    (c.as_slice-all.ensures ∙ ap (λ (q : ObjectPlan). q.template.clauses.items) c.deref.ensures) c.as_slice.ensures in
-    subst (λ os. All (λ (o : OwnClause). SumsFit o.terms x) os) (sym own)
+    let i = c.self.inside.site in
+    subst (λ (q : ObjectPlan). All (λ (o : OwnClause). SumsFit o.terms x) (own_clauses i (template_in q).clauses (config_in q)))
+    (sym c.deref-plan.ensures)
     (subst (λ (v : TreatyPart). All (λ (o : OwnClause). SumsFit o.terms x) (own_clauses v.site v.template.clauses v.config))
     (sym c.self.view_is) c.requires.fit)
 
 pub first_freeze-requires : goal.first_freeze-requires
 first_freeze-requires c =
-    freezes_there c.self.inside.plan.value c.as_slice-all.result.now c.as_slice-2.result.now c.args.freezes.now
-    (c.as_slice-all.ensures ∙ ap (λ (q : ObjectPlan). q.template.clauses.items) c.deref.ensures)
-    (c.as_slice-2.ensures ∙ ap (λ (q : ObjectPlan). q.template.freezes.items) c.deref.ensures)
+    let outline = λ (q : ObjectPlan). q.outline.value in
+    freezes_there c.self.inside.plan.value c.terms.result.now c.freezes.result.now c.args.freezes.now
+    (c.terms.ensures ∙ ap (λ (o : Outlined). o.terms) (c.deref-outline.ensures ∙ ap outline c.deref-plan.ensures))
+    (c.freezes.ensures ∙ ap (λ (o : Outlined). o.freezes) (c.deref-outline.ensures ∙ ap outline c.deref-plan.ensures))
     (subst
     (λ (v : TreatyPart). All
     (λ n. (length v.template.clauses ≤ n) × (n < length v.template.clauses + length v.template.freezes)) c.args.freezes.now)
@@ -44,13 +42,12 @@ first_freeze-requires c =
 
 pub returns-then-is_some : goal.returns-then-is_some
 returns-then-is_some c =
-    let in' = c.self.inside in
+    let i = c.self.inside.site in
     let x = values_of c.args.deltas.now in
     let cl = c.args.clauses.now in
-    let own =
-    checks_own in'.plan.value in'.site in'.bounds.items in'.index c.self.invariant c.as_slice-all.result.now c.as_slice.result.now
-    (c.as_slice-all.ensures ∙ ap (λ (q : ObjectPlan). q.template.clauses.items) c.deref.ensures) c.as_slice.ensures in
-    let same = c.first_clause-failure.ensures ∙ ap (λ os. first_failure (own_failure os x) cl) own in
+    let same =
+    c.first_clause-failure.ensures
+    ∙ ap (λ (q : ObjectPlan). first_failure (own_failure (own_clauses i (template_in q).clauses (config_in q)) x) cl) c.deref-plan.ensures in
     subst
     (λ (v : TreatyPart). c.first_clause-failure.result ≡
     first_of (first_failure (own_failure (own_clauses v.site v.template.clauses v.config) x) cl)
@@ -60,21 +57,21 @@ returns-then-is_some c =
 
 pub returns : goal.returns
 returns c =
-    let in' = c.self.inside in
-    let p = in'.plan.value in
+    let p = c.self.inside.plan.value in
+    let i = c.self.inside.site in
     let x = values_of c.args.deltas.now in
     let cl = c.args.clauses.now in
-    let clauses = c.as_slice-all.ensures ∙ ap (λ (q : ObjectPlan). q.template.clauses.items) c.deref.ensures in
-    let own =
-    checks_own p in'.site in'.bounds.items in'.index c.self.invariant c.as_slice-all.result.now c.as_slice.result.now
-    clauses c.as_slice.ensures in
-    let same = c.first_clause-failure.ensures ∙ ap (λ os. first_failure (own_failure os x) cl) own in
-    let count = template_count p c.as_slice-all.result.now clauses in
+    let outline = λ (q : ObjectPlan). q.outline.value in
+    let same =
+    c.first_clause-failure.ensures
+    ∙ ap (λ (q : ObjectPlan). first_failure (own_failure (own_clauses i (template_in q).clauses (config_in q)) x) cl) c.deref-plan.ensures in
+    let count =
+    lent_count p c.terms.result.now
+    (c.terms.ensures ∙ ap (λ (o : Outlined). o.terms) (c.deref-outline.ensures ∙ ap outline c.deref-plan.ensures)) in
     let freezes =
-    template_freezes p c.as_slice-2.result.now (c.as_slice-2.ensures ∙ ap (λ (q : ObjectPlan). q.template.freezes.items) c.deref.ensures) in
-    let frozen =
-    c.first_freeze.ensures
-    ∙ ap₂ (λ n ds. first_failure (own_freeze_failure n in'.site ds x) c.args.freezes.now) count freezes in
+    template_freezes p c.freezes.result.now
+    (c.freezes.ensures ∙ ap (λ (o : Outlined). o.freezes) (c.deref-outline.ensures ∙ ap outline c.deref-plan.ensures)) in
+    let frozen = c.first_freeze.ensures ∙ ap₂ (λ n ds. first_failure (own_freeze_failure n i ds x) c.args.freezes.now) count freezes in
     subst
     (λ (v : TreatyPart). c.first_freeze.result ≡
     first_of (first_failure (own_failure (own_clauses v.site v.template.clauses v.config) x) cl)
