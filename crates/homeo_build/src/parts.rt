@@ -19,7 +19,7 @@ ghost use Rattle.homeo_build.specs.inner.Followed.{IsSmallAlong};
 
 use crate::compiled::Compiled;
 use homeo_follow::{ObjectPlan, PlanPart};
-use homeo_linear::follow_at;
+use homeo_linear::Follower;
 use homeo_meaning::Database;
 use homeo_meaning::padded::item_or;
 use homeo_syntax::{LCommand, List, Memory};
@@ -36,9 +36,10 @@ pub(crate) fn parts_at(
     requires within { IsWithin (schema_of (plain_workload c.now)) base.now.items }
     ensures { IfOk result (λ ps. AreParts (plain_workload c.now) base.now.items ps.items) }
 {
+    let mut follower = Follower::new(alloc, base);
     let mut parts = List::new(alloc);
     for form in c.forms().forms.as_slice() {
-        parts.push(part_at(alloc, form, base)?)?;
+        parts.push(part_at(alloc, form, &mut follower)?)?;
     }
     Ok(parts)
 }
@@ -59,9 +60,10 @@ pub(crate) fn parts_after(
     let forms = c.forms();
     let names = forms.names.as_slice();
     let kept = last.parts.as_slice();
+    let mut follower = Follower::new(alloc, base);
     let mut parts = List::new(alloc);
     for (i, form) in forms.forms.as_slice().iter().enumerate() {
-        let part = part_after(alloc, form, names[i].as_slice(), &kept[i], &last.base, base)?;
+        let part = part_after(alloc, form, names[i].as_slice(), &kept[i], &last.base, base, &mut follower)?;
         parts.push(part)?;
     }
     Ok(parts)
@@ -75,6 +77,7 @@ fn part_after(
     kept: &Arc<PlanPart>,
     last: &Database,
     base: &Database,
+    follower: &mut Follower<'_>,
 ) -> Result<Arc<PlanPart>, Memory>
     requires names { names.now ≡ named (plain_lcommand form.now) }
     requires kept { plain_part kept.now.value ≡ brought (values_of last.now.items) (plain_lcommand form.now) }
@@ -85,16 +88,20 @@ fn part_after(
     if stays(names, last.as_slice(), base.as_slice()) {
         return Ok(Arc::try_clone(kept)?);
     }
-    part_at(alloc, form, base)
+    part_at(alloc, form, follower)
 }
 
 /// What one L form brings at a base, to be shared.
-fn part_at(alloc: Global, form: &LCommand, base: &Database) -> Result<Arc<PlanPart>, Memory>
+fn part_at(
+    alloc: Global,
+    form: &LCommand,
+    follower: &mut Follower<'_>,
+) -> Result<Arc<PlanPart>, Memory>
     requires form { IsSmallAlong (values_of base.now.items) (plain_lcommand form.now) }
     requires base { (x : ℕ) → IsSmall form_limit (values_of base.now.items x) }
     ensures { IfOk result (λ p. plain_part p.value ≡ brought (values_of base.now.items) (plain_lcommand form.now)) }
 {
-    let part = follow_at(alloc, form, base)?;
+    let part = follower.part(alloc, form)?;
     Ok(Arc::new(alloc, part)?)
 }
 

@@ -50,6 +50,14 @@ impl<'a> Course<'a> {
         }
     }
 
+    /// Begins again where nothing was followed.
+    fn begin(&mut self, base: &'a [i64]) {
+        self.standing.begin_objects(base);
+        self.atoms.clear();
+        self.prints.clear();
+        self.written.clear();
+    }
+
     /// Whether a condition holds at the base, after its atoms are asked.
     fn ask(&mut self, alloc: Global, test: &LCond) -> Result<bool, Memory>
         requires { CanCond (IsSmall form_limit) (forms_of self.old.standing) (plain_lcond test.now) }
@@ -159,23 +167,48 @@ pub fn follow_at(alloc: Global, command: &LCommand, base: &Database) -> Result<P
     requires base { (x : ℕ) → IsSmall form_limit (values_of base.now.items x) }
     ensures { IfOk result (λ p. plain_part p ≡ brought (values_of base.now.items) (plain_lcommand command.now)) }
 {
-    let mut course = Course::new(alloc, base.as_slice());
-    follow(alloc, command, &mut course)?;
-    let Course {
-        standing,
-        atoms,
-        prints,
-        written,
-    } = course;
-    let needed = needed(alloc, base.as_slice(), &standing, written, prints)?;
-    Ok(PlanPart {
-        atoms: AtomSet {
-            atoms: List::from_vec(atoms),
-        },
-        needs: FreezeSet {
-            deltas: List::from_vec(needed),
-        },
-    })
+    let mut follower = Follower::new(alloc, base);
+    follower.part(alloc, command)
+}
+
+/// Follows commands at a base, as `follow_at` does, one after another.
+#[derive(Drop)]
+pub struct Follower<'a> {
+    base: &'a [i64],
+    course: Course<'a>,
+}
+
+impl<'a> Follower<'a> {
+    /// At this base.
+    pub fn new(alloc: Global, base: &'a Database) -> Follower<'a> {
+        Follower {
+            base: base.as_slice(),
+            course: Course::new(alloc, base.as_slice()),
+        }
+    }
+
+    /// What `follow_at` gives of a command.
+    pub fn part(&mut self, alloc: Global, command: &LCommand) -> Result<PlanPart, Memory> {
+        self.course.begin(self.base);
+        follow(alloc, command, &mut self.course)?;
+        let needed = needed(
+            alloc,
+            self.base,
+            &self.course.standing,
+            Vec::from_slice(alloc, self.course.written.as_slice())?,
+            std::mem::replace(&mut self.course.prints, Vec::new(alloc)),
+        )?;
+        let mut atoms = Vec::with_capacity(alloc, self.course.atoms.len())?;
+        atoms.append(&mut self.course.atoms)?;
+        Ok(PlanPart {
+            atoms: AtomSet {
+                atoms: List::from_vec(atoms),
+            },
+            needs: FreezeSet {
+                deltas: List::from_vec(needed),
+            },
+        })
+    }
 }
 
 /// What the forms of prints, and the gains of the objects written, depend on.
