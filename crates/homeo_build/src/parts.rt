@@ -83,7 +83,9 @@ fn part_after(
     requires kept { plain_part kept.now.value ≡ brought (values_of last.now.items) (plain_lcommand form.now) }
     requires form { IsSmallAlong (values_of base.now.items) (plain_lcommand form.now) }
     requires base { (x : ℕ) → IsSmall form_limit (values_of base.now.items x) }
-    ensures { IfOk result (λ p. plain_part p.value ≡ brought (values_of base.now.items) (plain_lcommand form.now)) }
+    requires follower { follower.old.base.now ≡ base.now.items }
+    ensures follower { follower.new.base.now ≡ base.now.items }
+    ensures part { IfOk result (λ p. plain_part p.value ≡ brought (values_of base.now.items) (plain_lcommand form.now)) }
 {
     if stays(names, last.as_slice(), base.as_slice()) {
         return Ok(Arc::try_clone(kept)?);
@@ -91,15 +93,16 @@ fn part_after(
     part_at(alloc, form, follower)
 }
 
-/// What one L form brings at a base, to be shared.
+/// What one L form brings at the follower's base, to be shared.
 fn part_at(
     alloc: Global,
     form: &LCommand,
     follower: &mut Follower<'_>,
 ) -> Result<Arc<PlanPart>, Memory>
-    requires form { IsSmallAlong (values_of base.now.items) (plain_lcommand form.now) }
-    requires base { (x : ℕ) → IsSmall form_limit (values_of base.now.items x) }
-    ensures { IfOk result (λ p. plain_part p.value ≡ brought (values_of base.now.items) (plain_lcommand form.now)) }
+    requires form { IsSmallAlong (values_of follower.old.base.now) (plain_lcommand form.now) }
+    requires base { (x : ℕ) → IsSmall form_limit (values_of follower.old.base.now x) }
+    ensures follower { follower.new.base.now ≡ follower.old.base.now }
+    ensures part { IfOk result (λ p. plain_part p.value ≡ brought (values_of follower.old.base.now) (plain_lcommand form.now)) }
 {
     let part = follower.part(alloc, form)?;
     Ok(Arc::new(alloc, part)?)

@@ -63,13 +63,17 @@ part_after-requires c =
           small_at w c.args.base.now.items c.requires.accepted c.requires.within fs c.loop-i.i c.form-item.result forms.made
           c.loop-i-test.true c.form-item.is;
       base = small_base w c.args.base.now.items c.requires.accepted c.requires.within;
+      follower = c.loop-i.invariant.follower;
     }
 
 pub loop-i-preserved : goal.loop-i-preserved
-loop-i-preserved c =
-    grown shared_part (lent_brought (values_of c.args.base.now.items)) c.loop-i.parts.items _ _ c.as_slice-form-items.result.now
-    c.loop-i.i c.form-item.result c.loop-i-test.true c.form-item.is (ap (λ l. l.items) c.in_ok-push.ensures.ok)
-    c.loop-i.invariant c.in_ok-part.ensures
+loop-i-preserved c = record {
+  follower = c.part_after.ensures.follower;
+  parts =
+      grown shared_part (lent_brought (values_of c.args.base.now.items)) c.loop-i.parts.items _ _ c.as_slice-form-items.result.now
+      c.loop-i.i c.form-item.result c.loop-i-test.true c.form-item.is (ap (λ l. l.items) c.in_ok-push.ensures.ok)
+      c.loop-i.invariant.parts c.in_ok-part.ensures.part;
+}
 
 pub returns : goal.returns
 returns c =
@@ -78,4 +82,4 @@ returns c =
     let made = c.forms-forms.result.now in
     let forms = forms_lent w made.forms.items fs made.places.items c.as_slice-form-items.ensures c.forms-forms.ensures.forms in
     parts_all w c.args.base.now.items fs made.places.items c.loop-i.parts.items c.loop-i.i forms
-    c.loop-i-test.false c.loop-i.invariant
+    c.loop-i-test.false c.loop-i.invariant.parts
