@@ -18,7 +18,7 @@ ghost use Rattle.homeo_build.specs.inner.Rebased.{IsRebased, AreRebased};
 
 use crate::compiled::Compiled;
 use homeo_follow::PlanPart;
-use homeo_linear::follow_at;
+use homeo_linear::Follower;
 use homeo_meaning::Database;
 use homeo_meaning::padded::item_or;
 use homeo_outline::{ObjectPlan, is_rebased};
@@ -45,9 +45,10 @@ pub(crate) fn parts_at(
     requires within { IsWithin (schema_of (plain_workload c.now)) base.now.items }
     ensures { IfOk result (λ ps. AreParts (plain_workload c.now) base.now.items ps.items) }
 {
+    let mut follower = Follower::new(alloc, base);
     let mut parts = List::new(alloc);
     for form in c.forms().forms.as_slice() {
-        parts.push(part_at(alloc, form, base)?)?;
+        parts.push(part_at(alloc, form, &mut follower)?)?;
     }
     Ok(parts)
 }
@@ -72,35 +73,37 @@ pub(crate) fn parts_after(
     let names = forms.names.as_slice();
     let kept = last.parts.as_slice();
     let (from, to) = (last.base.as_slice(), base.as_slice());
+    let mut follower = Follower::new(alloc, base);
     let mut parts = List::new(alloc);
     let mut are_rebased = true;
     for (i, form) in forms.forms.as_slice().iter().enumerate() {
         let old = &kept[i];
         let stays = have_same_values(names[i].as_slice(), from, to);
-        let part = part_after(alloc, form, old, stays, base)?;
+        let part = part_after(alloc, form, old, stays, &mut follower)?;
         are_rebased = are_rebased && is_rebased_part(old, &part, stays, from, to);
         parts.push(part)?;
     }
     Ok(PartsAfter { parts, are_rebased })
 }
 
-/// What one L form brings at a base: what is kept, where that stays.
+/// What one L form brings at the follower's base: what is kept, where that stays.
 fn part_after(
     alloc: Global,
     form: &LCommand,
     kept: &Arc<PlanPart>,
     stays: bool,
-    base: &Database,
+    follower: &mut Follower<'_>,
 ) -> Result<Arc<PlanPart>, Memory>
-    requires kept { IsTrue stays → plain_part kept.now.value ≡ brought (values_of base.now.items) (plain_lcommand form.now) }
-    requires form { IsSmallAlong (values_of base.now.items) (plain_lcommand form.now) }
-    requires base { (x : ℕ) → IsSmall form_limit (values_of base.now.items x) }
-    ensures { IfOk result (λ p. plain_part p.value ≡ brought (values_of base.now.items) (plain_lcommand form.now)) }
+    requires kept { IsTrue stays → plain_part kept.now.value ≡ brought (values_of follower.old.base.now) (plain_lcommand form.now) }
+    requires form { IsSmallAlong (values_of follower.old.base.now) (plain_lcommand form.now) }
+    requires base { (x : ℕ) → IsSmall form_limit (values_of follower.old.base.now x) }
+    ensures follower { follower.new.base.now ≡ follower.old.base.now }
+    ensures part { IfOk result (λ p. plain_part p.value ≡ brought (values_of follower.old.base.now) (plain_lcommand form.now)) }
 {
     if stays {
         return Ok(Arc::try_clone(kept)?);
     }
-    part_at(alloc, form, base)
+    part_at(alloc, form, follower)
 }
 
 /// Whether what an L form brings at a base is found to be what is kept of it, rebased. What stays is so, and isn't compared.
@@ -111,13 +114,18 @@ fn is_rebased_part(kept: &PlanPart, part: &PlanPart, stays: bool, from: &[i64], 
     stays || is_rebased(kept, part, from, to)
 }
 
-/// What one L form brings at a base, to be shared.
-fn part_at(alloc: Global, form: &LCommand, base: &Database) -> Result<Arc<PlanPart>, Memory>
-    requires form { IsSmallAlong (values_of base.now.items) (plain_lcommand form.now) }
-    requires base { (x : ℕ) → IsSmall form_limit (values_of base.now.items x) }
-    ensures { IfOk result (λ p. plain_part p.value ≡ brought (values_of base.now.items) (plain_lcommand form.now)) }
+/// What one L form brings at the follower's base, to be shared.
+fn part_at(
+    alloc: Global,
+    form: &LCommand,
+    follower: &mut Follower<'_>,
+) -> Result<Arc<PlanPart>, Memory>
+    requires form { IsSmallAlong (values_of follower.old.base.now) (plain_lcommand form.now) }
+    requires base { (x : ℕ) → IsSmall form_limit (values_of follower.old.base.now x) }
+    ensures follower { follower.new.base.now ≡ follower.old.base.now }
+    ensures part { IfOk result (λ p. plain_part p.value ≡ brought (values_of follower.old.base.now) (plain_lcommand form.now)) }
 {
-    let part = follow_at(alloc, form, base)?;
+    let part = follower.part(alloc, form)?;
     Ok(Arc::new(alloc, part)?)
 }
 

@@ -133,6 +133,10 @@ number_behind_is a m n z ts ds e c o =
     same_form z (m +ℤ n) ts (add_terms ts []) ds (add_deltas ds []) (c ∙ swapped m n) (terms_kept ts o.0.order o.0.counts) (deltas_kept ds o.1)
     ∙ ap (λ b. add_forms b (constant_form n)) e
 
+-- nothing behind it
+pub none_behind : (a : Linear) (m : ℤ) (ts : List Term) (ds : List Delta) → form_of m ts ds ≡ a → AreFormParts ts ds → a ≡ add_forms a (constant_form (pos 0))
+none_behind a m ts ds e o = sym e ∙ number_behind_is a m (pos 0) m ts ds e (sym (+ℤ_idl m)) o
+
 pub term_more_is :
     (a : Linear) (m z : ℤ) (t : Term) (ts us : List Term) (ds : List Delta) → form_of m (add_terms ts []) ds ≡ a → z ≡ m → us ≡ ts ++ t ∷ [] →
     form_of z (add_terms us []) ds ≡ add_forms (term_form t) a

@@ -1,7 +1,8 @@
 -- Forms of the items of sums.
-use Rattle.std.proofs.Common.{◌≡◌, Box, Global, ℤ, negsuc, ◌*ℤ◌, refl, sym, ap, ◌∙◌, subst}
+use Rattle.std.proofs.Common.{◌≡◌, Box, Global, List, [], ◌∷◌, map, length, get_or, Option, IfSome, ℤ, pos, negsuc, ◌*ℤ◌, refl, sym, ap, ap₂, ◌∙◌, subst, arith}
+use Rattle.homeo_syntax.specs.Key.{definitions as syntax_definitions}
 use Rattle.homeo_syntax.specs.Low as l
-use Rattle.homeo_syntax.specs.LowView.{plain_lexpr}
+use Rattle.homeo_syntax.specs.LowView.{low_exprs, plain_lexpr}
 use Rattle.homeo_syntax.specs.declared.low.Temp as temps
 use Rattle.homeo_syntax.specs.declared.low.SplitName.{SplitName}
 use Rattle.homeo_syntax.specs.declared.low.LExpr.{LExpr, Literal, Temp, Read, Neg}
@@ -10,12 +11,12 @@ use Rattle.homeo_meaning.specs.LowMeaning.{TempAt, location_of}
 use Rattle.homeo_meaning.specs.Small.{IsSmall}
 use Rattle.homeo_plan.specs.Key.{definitions as plan_definitions}
 use Rattle.homeo_plan.specs.FormSizes.{Numbers, CanForm}
-use Rattle.homeo_plan.specs.Linear.{Forms, constant_form, scale_form, form}
+use Rattle.homeo_plan.specs.Linear.{Forms, constant_form, add_forms, scale_form, form}
 use Rattle.homeo_plan.specs.Limit.{form_limit}
 use Rattle.homeo_form.specs.declared.items.Item.{Item}
 use Rattle.homeo_form.specs.declared.items.Item.TheVariants as items
 use Rattle.homeo_split.specs.declared.places.Place.{Place}
-use Rattle.homeo_form.specs.inner.Items.{HasFormAt, IsItem}
+use Rattle.homeo_form.specs.inner.Items.{HasFormAt, IsItem, IsPlaceAndNumber}
 use Rattle.homeo_split.specs.Places.{plain_place}
 use Rattle.homeo_form.proofs.FormSteps.{small_form, literal_form, temp_form, read_form}
 
@@ -51,6 +52,12 @@ negated_made e p m = record {
 pub neg_item : (i : Item) (e : LExpr) (b : Box LExpr Global) (x : LExpr) → e ≡ Neg b → x ≡ b.value → IsItem i (l.Neg (plain_lexpr x)) → IsItem i (plain_lexpr e)
 neg_item i e b x p q h = subst (IsItem i) (ap (λ y. l.Neg (plain_lexpr y)) q ∙ sym (ap plain_lexpr p ∙ low_Neg b)) h
 
+pub neg_number :
+    (o : Option ℤ) (e : LExpr) (b : Box LExpr Global) (x : LExpr) → e ≡ Neg b → x ≡ b.value →
+    IfSome o (λ n. (f : Forms) → form f (l.Neg (plain_lexpr x)) ≡ constant_form n) → IfSome o (λ n. (f : Forms) → form f (plain_lexpr e) ≡ constant_form n)
+neg_number o e b x p q h =
+    subst (λ z. IfSome o (λ n. (f : Forms) → form f z ≡ constant_form n)) (ap (λ y. l.Neg (plain_lexpr y)) q ∙ sym (ap plain_lexpr p ∙ low_Neg b)) h
+
 -- ---- an item that is known
 module _ (i : Item) (p : Place) (e : l.Expr) where
   pub item_read : i ≡ items.Read p → IsItem i e → HasFormAt (λ a. a) e p
@@ -70,3 +77,29 @@ pub negated_small :
     (f : Forms) {e : l.Expr} {p : Place} → HasFormAt (scale_form (negsuc 0)) e p → CanForm (IsSmall form_limit) f e →
     Numbers (IsSmall form_limit) (scale_form (negsuc 0) (f (plain_place p)))
 negated_small f {e} m c = subst (Numbers (IsSmall form_limit)) (m.made f) (small_form (IsSmall form_limit) f e c)
+
+-- ---- a number with its sign turned
+pub negated_number : (f : Forms) (e : l.Expr) (n : ℤ) → form f e ≡ constant_form n → constant_form (negsuc 0 *ℤ n) ≡ scale_form (negsuc 0) (form f e)
+unfolding plan_definitions
+negated_number f e n h = sym (ap (scale_form (negsuc 0)) h)
+
+pub negated_number_small :
+    (f : Forms) (e : l.Expr) (n : ℤ) → form f e ≡ constant_form n → Numbers (IsSmall form_limit) (scale_form (negsuc 0) (form f e)) → IsSmall form_limit (negsuc 0 *ℤ n)
+unfolding plan_definitions
+negated_number_small f e n h k = (subst (Numbers (IsSmall form_limit)) (sym (negated_number f e n h)) k).constant
+
+-- ---- a place and a number
+pub place_and_number :
+    (es : List LExpr) (d e : LExpr) (p : Place) (n : ℤ) → length es ≡ 2 → d ≡ get_or es 0 d → e ≡ get_or es 1 e → HasFormAt (λ a. a) (plain_lexpr d) p →
+    ((f : Forms) → form f (plain_lexpr e) ≡ constant_form n) → IsPlaceAndNumber p n (low_exprs (map plain_lexpr es))
+unfolding plan_definitions syntax_definitions
+place_and_number [] d e p n h q r m k = absurd (omega (arith, h))
+place_and_number (x ∷ []) d e p n h q r m k = absurd (omega (arith, h))
+place_and_number (x ∷ y ∷ z ∷ es) d e p n h q r m k = absurd (omega (arith, h))
+place_and_number (x ∷ y ∷ []) d e p n h q r m k =
+    let m' = subst (λ z. HasFormAt (λ a. a) (plain_lexpr z) p) q m in
+    let k' : (f : Forms) → form f (plain_lexpr y) ≡ constant_form n = subst (λ z. (f : Forms) → form f (plain_lexpr z) ≡ constant_form n) r k in
+    record {
+      made = λ f. ap₂ (λ a b. add_forms a (add_forms b (constant_form (pos 0)))) (k' f) (m'.made f);
+      small = λ f c. (m'.small f c.1, number_small f (plain_lexpr y) n (k' f) c.2.1);
+    }

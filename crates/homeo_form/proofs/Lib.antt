@@ -5,6 +5,7 @@ mod FactorsFound
 mod FormParts
 pub mod FormSteps
 mod ItemForms
+mod ObjectPlaces
 pub mod Orders
 mod RunningSums
 mod Stands

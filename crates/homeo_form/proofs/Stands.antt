@@ -1,48 +1,117 @@
 -- What a map of places gives for each location.
-use Rattle.std.proofs.Common.{◌≡◌, ℕ, Bool, true, false, cond, Option, Some, None, ℤ, pos, negsuc, ◌+ℤ◌, ◌*ℤ◌, refl, sym, ap, ◌∙◌, subst}
-use Rattle.std.proofs.Math.IntN.{+ℤ_idl}
-use Rattle.std.specs.HashMap.{HashMap, get, get_by}
+use Rattle.std.proofs.Common.{◌≡◌, ◌==◌, ◌⊎◌, inl, inr, ℕ, [], ◌∷◌, Bool, true, false, cond, Option, Some, None, ℤ, pos, negsuc, ◌+ℤ◌, ◌*ℤ◌, refl, sym, ap, ◌∙◌, subst}
+use Rattle.std.proofs.Math.IntN.{+ℤ_idl, +ℤ_idr}
+use Rattle.std.specs.HashMap.{get, get_by}
+use Rattle.std.specs.Map.{lookup}
 use Rattle.std.specs.Option.{unwrap_or}
 use Rattle.homeo_meaning.specs.Key.{definitions as meaning_definitions}
-use Rattle.homeo_meaning.specs.LowMeaning.{same_location, put}
+use Rattle.homeo_meaning.specs.LowMeaning.{Location, TempAt, BaseAt, DeltaAt, same_location, put}
+use Rattle.homeo_meaning.specs.Serial.{values_of}
+use Rattle.homeo_meaning.specs.Small.{IsSmall}
+use Rattle.homeo_plan.specs.FormSizes.{Numbers}
+use Rattle.homeo_plan.specs.Limit.{form_limit}
 use Rattle.homeo_plan.specs.Key.{definitions as plan_definitions}
-use Rattle.homeo_plan.specs.Linear.{Linear, Forms, add_term, constant_form, add_forms, scale_form, base_forms}
+use Rattle.homeo_plan.specs.Linear.{Linear, add_term, constant_form, add_forms, scale_form, base_forms}
 use Rattle.homeo_follow.specs.Key.{definitions as follow_definitions}
 use Rattle.homeo_follow.specs.Follow.{object_forms}
 use Rattle.homeo_split.specs.contracts.places.PlacePartialEq.TheImpl.{ghosts}
 use Rattle.homeo_split.specs.declared.places.Place.{Place}
-use Rattle.homeo_split.specs.declared.places.Place.TheVariants.{Base, Delta}
+use Rattle.homeo_split.specs.declared.places.Place.TheVariants.{Named, Fresh, Base, Delta}
 use Rattle.homeo_form.specs.inner.Key.{definitions}
 use Rattle.homeo_split.specs.Places.{plain_place}
 use Rattle.homeo_split.proofs.SamePlaces.{is_at, at_each_place, same-places}
-use Rattle.homeo_form.specs.inner.Terms.{term_form}
+use Rattle.homeo_form.specs.Objects.{form_in}
+use Rattle.homeo_form.specs.Standing.{first_forms, set_at, forms_of}
+use Rattle.homeo_form.specs.declared.objects.ObjectForms.{ObjectForms}
+use Rattle.homeo_form.specs.declared.standing.Standing.{Standing}
+use Rattle.homeo_form.specs.inner.Terms.{term_form, beside}
 
 choice : (b : Bool) (v d : Linear) (o : Option Linear) → unwrap_or (cond b (Some v) o) d ≡ cond b v (unwrap_or o d)
 choice true v d o = refl
 choice false v d o = refl
 
-pub stands-put :
-    {S : Type 0} (g : Forms) (m n : HashMap Place Linear S) (k : Place) (v : Linear) →
-    ((q : Place) → get ghosts.eq n q ≡ cond (ghosts.eq k q) (Some v) (get ghosts.eq m q)) →
-    (λ l. unwrap_or (get_by (is_at l) n) (g l)) ≡ put (λ l. unwrap_or (get_by (is_at l) m) (g l)) (plain_place k) v
-unfolding meaning_definitions
-stands-put g m n k v h =
-    let s : ghosts.eq ≡ (λ a b. is_at (plain_place a) b) = λ i a b. same-places a b i in
-    let h' = subst (λ (e : Place → Place → Bool). (q : Place) → get e n q ≡ cond (e k q) (Some v) (get e m q)) s h in
-    let at = at_each_place (λ l. unwrap_or (get_by (is_at l) n) (g l) ≡ cond (same_location (plain_place k) l) v (unwrap_or (get_by (is_at l) m) (g l)))
-    (λ q. ap (λ o. unwrap_or o (g (plain_place q))) (h' q) ∙ choice (same_location (plain_place k) (plain_place q)) v (g (plain_place q)) (get_by (is_at (plain_place q)) m)) in
-    λ i l. at l i
+-- not an object
+abbrev pub IsOther : Place → Type 0
+IsOther p = ((n : ℕ) × (p ≡ Named n)) ⊎ (((n : ℕ) × (p ≡ Fresh n)) ⊎ ((x : ℕ) × (j : ℕ) × (p ≡ Delta x j)))
 
-stands-at : {S : Type 0} (g : Forms) (m : HashMap Place Linear S) (k : Place) (o : Option Linear) → o ≡ get ghosts.eq m k → unwrap_or o (g (plain_place k)) ≡ unwrap_or (get_by (is_at (plain_place k)) m) (g (plain_place k))
-stands-at g m k o h =
-    let test : ghosts.eq k ≡ is_at (plain_place k) = λ i p. same-places k p i in
-    ap (λ o. unwrap_or o (g (plain_place k))) (h ∙ ap (λ t. get_by t m) test)
+at_other : (P : Place → Type 0) → ((n : ℕ) → P (Named n)) → ((n : ℕ) → P (Fresh n)) → ((x j : ℕ) → P (Delta x j)) → (p : Place) → IsOther p → P p
+at_other P named fresh delta p (inl (n, e)) = subst P (sym e) (named n)
+at_other P named fresh delta p (inr (inl (n, e))) = subst P (sym e) (fresh n)
+at_other P named fresh delta p (inr (inr (x, j, e))) = subst P (sym e) (delta x j)
 
-pub stands-set : {S : Type 0} (g : Forms) (m : HashMap Place Linear S) (k : Place) (v : Linear) → Some v ≡ get ghosts.eq m k → v ≡ unwrap_or (get_by (is_at (plain_place k)) m) (g (plain_place k))
-stands-set g m k v h = stands-at g m k (Some v) h
+same_test : (p : Place) → ghosts.eq p ≡ is_at (plain_place p)
+same_test p = λ i q. same-places p q i
 
-pub stands-unset : {S : Type 0} (g : Forms) (m : HashMap Place Linear S) (k : Place) → None ≡ get ghosts.eq m k → g (plain_place k) ≡ unwrap_or (get_by (is_at (plain_place k)) m) (g (plain_place k))
-stands-unset g m k h = stands-at g m k None h
+-- ---- what was set at a place
+pub set_other :
+    (s : Standing) (p : Place) (o : Option Linear) → IsOther p → o ≡ get ghosts.eq s.others p →
+    unwrap_or o (first_forms s.are_whole (values_of s.base.now) (plain_place p)) ≡ forms_of s (plain_place p)
+unfolding forms_of
+set_other s p o k h =
+    ap (λ v. unwrap_or v (first_forms s.are_whole (values_of s.base.now) (plain_place p)))
+    (h ∙ ap (λ t. get_by t s.others) (same_test p) ∙ at_other (λ q. get_by (is_at (plain_place q)) s.others ≡ set_at s (plain_place q)) (λ n. refl) (λ n. refl) (λ x j. refl) p k)
+
+pub set_object :
+    (s : Standing) (p : Place) (x : ℕ) (o : Option Linear) → p ≡ Base x → o ≡ form_in s.objects x →
+    unwrap_or o (first_forms s.are_whole (values_of s.base.now) (plain_place p)) ≡ forms_of s (plain_place p)
+unfolding forms_of
+set_object s p x o e h =
+    ap (λ v. unwrap_or v (first_forms s.are_whole (values_of s.base.now) (plain_place p))) (h ∙ sym (ap (λ q. set_at s (plain_place q)) e))
+
+-- ---- where nothing is set
+pub none_set :
+    (s : Standing) → ((x : ℕ) → form_in s.objects x ≡ None) → s.others.entries ≡ [] → forms_of s ≡ first_forms s.are_whole (values_of s.base.now)
+unfolding forms_of
+none_set s h e = λ i l. at l i
+  where
+    at : (l : Location) → forms_of s l ≡ first_forms s.are_whole (values_of s.base.now) l
+    at (TempAt t) = ap (λ es. unwrap_or (lookup (is_at (TempAt t)) es) (first_forms s.are_whole (values_of s.base.now) (TempAt t))) e
+    at (BaseAt x) = ap (λ o. unwrap_or o (first_forms s.are_whole (values_of s.base.now) (BaseAt x))) (h x)
+    at (DeltaAt x j) = ap (λ es. unwrap_or (lookup (is_at (DeltaAt x j)) es) (first_forms s.are_whole (values_of s.base.now) (DeltaAt x j))) e
+
+-- ---- a form that is set
+pub put_object :
+    (s : Standing) (o : ObjectForms) (p : Place) (x : ℕ) (a : Linear) → p ≡ Base x → ((y : ℕ) → form_in o y ≡ cond (x == y) (Some a) (form_in s.objects y)) →
+    forms_of (record { base = s.base; are_whole = s.are_whole; objects = o; others = s.others }) ≡ put (forms_of s) (plain_place p) a
+unfolding forms_of meaning_definitions
+put_object s o p x a e h = (λ i l. at l i) ∙ sym (ap (λ q. put (forms_of s) (plain_place q) a) e)
+  where
+    t : Standing
+    t = record { base = s.base; are_whole = s.are_whole; objects = o; others = s.others }
+    at : (l : Location) → forms_of t l ≡ put (forms_of s) (BaseAt x) a l
+    at (TempAt m) = refl
+    at (BaseAt y) =
+        ap (λ v. unwrap_or v (first_forms s.are_whole (values_of s.base.now) (BaseAt y))) (h y)
+        ∙ choice (x == y) a (first_forms s.are_whole (values_of s.base.now) (BaseAt y)) (form_in s.objects y)
+    at (DeltaAt y j) = refl
+
+pub put_other :
+    (s t : Standing) (p : Place) (a : Linear) → t.base ≡ s.base → t.are_whole ≡ s.are_whole → t.objects ≡ s.objects → IsOther p →
+    ((q : Place) → get ghosts.eq t.others q ≡ cond (ghosts.eq p q) (Some a) (get ghosts.eq s.others q)) → forms_of t ≡ put (forms_of s) (plain_place p) a
+unfolding forms_of meaning_definitions
+put_other s t p a eb ew eo k h = λ i l. at_each_place P each l i
+  where
+    P : Location → Type 0
+    P l = forms_of t l ≡ put (forms_of s) (plain_place p) a l
+    tests : ghosts.eq ≡ (λ a b. is_at (plain_place a) b)
+    tests = λ i a b. same-places a b i
+    got : (q : Place) → get_by (is_at (plain_place q)) t.others ≡ cond (is_at (plain_place p) q) (Some a) (get_by (is_at (plain_place q)) s.others)
+    got = subst (λ (e : Place → Place → Bool). (q : Place) → get e t.others q ≡ cond (e p q) (Some a) (get e s.others q)) tests h
+    first : (q : Place) → first_forms t.are_whole (values_of t.base.now) (plain_place q) ≡ first_forms s.are_whole (values_of s.base.now) (plain_place q)
+    first q = λ i. first_forms (ew i) (values_of (eb i).now) (plain_place q)
+    mapped :
+        (q : Place) → unwrap_or (get_by (is_at (plain_place q)) t.others) (first_forms t.are_whole (values_of t.base.now) (plain_place q))
+        ≡ cond (is_at (plain_place p) q) a (unwrap_or (get_by (is_at (plain_place q)) s.others) (first_forms s.are_whole (values_of s.base.now) (plain_place q)))
+    mapped q =
+        (λ i. unwrap_or (got q i) (first q i))
+        ∙ choice (is_at (plain_place p) q) a (first_forms s.are_whole (values_of s.base.now) (plain_place q)) (get_by (is_at (plain_place q)) s.others)
+    each : (q : Place) → P (plain_place q)
+    each (Named n) = mapped (Named n)
+    each (Fresh n) = mapped (Fresh n)
+    each (Delta x j) = mapped (Delta x j)
+    each (Base y) =
+        (λ i. unwrap_or (form_in (eo i) y) (first (Base y) i))
+        ∙ sym (ap (λ b. cond b a (forms_of s (BaseAt y))) (at_other (λ q. same_location (plain_place q) (BaseAt y) ≡ false) (λ n. refl) (λ n. refl) (λ x j. refl) p k))
 
 -- ---- the form of a delta as a round begins
 pub base_delta :
@@ -64,6 +133,20 @@ unfolding plan_definitions follow_definitions definitions
 object_added b p x a e =
     (λ i. record { constant = +ℤ_idl (b x +ℤ a.constant) i; terms = add_term (record { object = x; site = 0 }) (pos 1) a.terms; mixed = a.mixed })
     ∙ sym (ap (λ q. add_forms (object_forms b (plain_place q)) a) e)
+
+-- an object that is whole, with a number added
+pub object_small :
+    (b : ℕ → ℤ) (p : Place) (x : ℕ) → p ≡ Base x → Numbers (IsSmall form_limit) (object_forms b (plain_place p)) → IsSmall form_limit (b x)
+unfolding follow_definitions
+object_small b p x e h = (subst (λ q. Numbers (IsSmall form_limit) (object_forms b (plain_place q))) e h).constant
+
+pub object_with :
+    (b : ℕ → ℤ) (p : Place) (x : ℕ) (n m : ℤ) → p ≡ Base x → m ≡ n +ℤ b x →
+    beside m (record { object = x; site = 0 }) ≡ add_forms (constant_form n) (add_forms (object_forms b (plain_place p)) (constant_form (pos 0)))
+unfolding plan_definitions follow_definitions definitions
+object_with b p x n m e h =
+    (λ i. record { constant = (h ∙ ap (λ k. n +ℤ k) (sym (+ℤ_idr (b x)))) i; terms = record { delta = record { object = x; site = 0 }; factor = pos 1 } ∷ []; mixed = [] })
+    ∙ sym (ap (λ q. add_forms (constant_form n) (add_forms (object_forms b (plain_place q)) (constant_form (pos 0)))) e)
 
 pub object_taken :
     (b : ℕ → ℤ) (p : Place) (x : ℕ) (a : Linear) → p ≡ Base x →

@@ -1,15 +1,16 @@
 //! The forms of expressions.
 
-ghost use Rattle.std.specs.Prelude.{◌≡◌, pos, map, IfOk};
+ghost use Rattle.std.specs.Prelude.{◌≡◌, pos, negsuc, map, IfOk};
 ghost use Rattle.homeo_syntax.specs.LowView.{low_exprs, plain_lexpr};
 ghost use Rattle.homeo_meaning.specs.Small.{IsSmall};
-ghost use Rattle.homeo_plan.specs.FormSizes.{CanForm, CanSum, CanProduct};
-ghost use Rattle.homeo_plan.specs.Linear.{constant_form, form, sum_form, product_form};
+ghost use Rattle.homeo_plan.specs.FormSizes.{Numbers, CanForm, CanSum, CanProduct};
+ghost use Rattle.homeo_plan.specs.Linear.{constant_form, add_forms, scale_form, form, sum_form, product_form};
 ghost use Rattle.homeo_plan.specs.Limit.{form_limit};
 ghost use Rattle.homeo_form.specs.Standing.{forms_of};
 
 use crate::form::{Form, Total};
-use crate::items::{Item, item_of};
+use crate::items::{Item, item_of, number_of, place_and_number};
+use crate::numbers::multiplied;
 use crate::standing::Standing;
 use homeo_split::{place_of, place_of_temp};
 use homeo_syntax::{LExpr, Memory};
@@ -46,6 +47,9 @@ fn sum(alloc: Global, standing: &Standing, es: &[LExpr]) -> Result<Form, Memory>
     requires { CanSum (IsSmall form_limit) (forms_of standing.now) (constant_form (pos 0)) (low_exprs (map plain_lexpr es.now)) }
     ensures { IfOk result (λ f. f ≡ sum_form (forms_of standing.now) (constant_form (pos 0)) (low_exprs (map plain_lexpr es.now))) }
 {
+    if let Some((place, n)) = place_and_number(es) {
+        return standing.form_beside(alloc, place, n);
+    }
     let mut total = Total::with_room(alloc, es.len())?;
     for e in es {
         total = match item_of(e) {
@@ -73,4 +77,35 @@ fn product(alloc: Global, standing: &Standing, es: &[LExpr]) -> Result<Form, Mem
         total = total.by(alloc, &part)?;
     }
     Ok(total)
+}
+
+/// The form of the difference of two expressions. In neither, nor in the second with its sign turned, may there be a constant or
+/// a factor above 4 * 10^18 in size, as in `form`.
+///
+/// # Errors
+///
+/// `Memory` when out of memory.
+pub fn difference(
+    alloc: Global,
+    standing: &Standing,
+    left: &LExpr,
+    right: &LExpr,
+) -> Result<Form, Memory>
+    requires left { CanForm (IsSmall form_limit) (forms_of standing.now) (plain_lexpr left.now) }
+    requires right { CanForm (IsSmall form_limit) (forms_of standing.now) (plain_lexpr right.now) }
+    requires negated { Numbers (IsSmall form_limit) (scale_form (negsuc 0) (form (forms_of standing.now) (plain_lexpr right.now))) }
+    ensures { IfOk result (λ f. f ≡ add_forms (form (forms_of standing.now) (plain_lexpr left.now))
+        (scale_form (negsuc 0) (form (forms_of standing.now) (plain_lexpr right.now)))) }
+{
+    if let Some(n) = number_of(left) {
+        let less = form(alloc, standing, right)?;
+        return Ok(less.negated().plus_number(n));
+    }
+    if let Some(n) = number_of(right) {
+        let whole = form(alloc, standing, left)?;
+        return Ok(whole.plus_number(multiplied(-1, n)));
+    }
+    let whole = form(alloc, standing, left)?;
+    let less = form(alloc, standing, right)?;
+    whole.minus(alloc, less)
 }

@@ -91,11 +91,10 @@ impl Form {
     }
 
     /// The form of a delta and a constant.
-    fn delta_beside(alloc: Global, constant: i128, delta: Delta) -> Result<Form, Memory>
+    pub(crate) fn delta_beside(alloc: Global, constant: i128, delta: Delta) -> Result<Form, Memory>
         ensures { IfOk result (λ f. f ≡ beside constant delta) }
     {
-        let mut terms = Vec::new(alloc);
-        terms.push(Term { delta, factor: 1 })?;
+        let terms = Vec::from_array(alloc, [Term { delta, factor: 1 }])?;
         Ok(Form {
             constant,
             terms,
@@ -141,6 +140,7 @@ impl Form {
         requires number_small { IsSmall form_limit n }
         ensures first { result ≡ add_forms (constant_form n) self }
         ensures last { result ≡ add_forms self (constant_form n) }
+        ensures sum { result ≡ add_forms (constant_form n) (add_forms self (constant_form (pos 0))) }
     {
         Form {
             constant: added(n, self.constant),
@@ -168,7 +168,7 @@ impl Form {
     }
 
     /// The form with its sign turned.
-    fn negated(self) -> Form
+    pub(crate) fn negated(self) -> Form
         requires small { Numbers (IsSmall form_limit) self }
         ensures { result ≡ scale_form (negsuc 0) self }
     {

@@ -7,11 +7,12 @@ mod expressions;
 mod form;
 mod items;
 mod numbers;
+mod objects;
 mod standing;
 mod terms;
 
 pub use checked::checked_form;
 pub use deltas::in_order as deltas_in_order;
-pub use expressions::form as expression_form;
+pub use expressions::{difference as expression_difference, form as expression_form};
 pub use form::Form;
 pub use standing::Standing;

@@ -1,19 +1,21 @@
 //! The forms of what stands at each place.
 
-ghost use Rattle.std.specs.Prelude.{◌≡◌, negsuc, IsTrue, IfOk, OnOk};
+ghost use Rattle.std.specs.Prelude.{◌≡◌, pos, negsuc, IsTrue, IfOk, OnOk};
+ghost use Rattle.std.specs.Option.{option_copied, unwrap_or};
 ghost use Rattle.homeo_meaning.specs.LowMeaning.{BaseAt, put};
 ghost use Rattle.homeo_meaning.specs.Serial.{values_of};
 ghost use Rattle.homeo_meaning.specs.Small.{IsSmall};
 ghost use Rattle.homeo_plan.specs.FormSizes.{Numbers};
 ghost use Rattle.homeo_plan.specs.Limit.{form_limit};
-ghost use Rattle.homeo_plan.specs.Linear.{base_forms, add_forms, scale_form};
+ghost use Rattle.homeo_plan.specs.Linear.{base_forms, constant_form, add_forms, scale_form};
 ghost use Rattle.homeo_split.specs.Places.{plain_place};
 ghost use Rattle.homeo_follow.specs.Follow.{object_forms};
 ghost use Rattle.homeo_form.specs.Standing.{first_forms, forms_of};
 ghost use Rattle.homeo_form.specs.Moved.{IsMoved};
 
 use crate::form::{Form, Total};
-use crate::numbers::multiplied;
+use crate::numbers::{added, multiplied};
+use crate::objects::ObjectForms;
 use homeo_meaning::padded::item_or;
 use homeo_plan::{Delta, Term};
 use homeo_split::Place;
@@ -27,7 +29,9 @@ use std::collections::HashMap;
 pub struct Standing<'a> {
     base: &'a [i64],
     are_whole: bool,
-    set: HashMap<Place, Form>,
+    objects: ObjectForms,
+    /// The forms that were set at other places.
+    others: HashMap<Place, Form>,
 }
 
 impl<'a> Standing<'a> {
@@ -38,7 +42,8 @@ impl<'a> Standing<'a> {
         Standing {
             base,
             are_whole: false,
-            set: HashMap::new(alloc),
+            objects: ObjectForms::new(alloc),
+            others: HashMap::new(alloc),
         }
     }
 
@@ -49,7 +54,8 @@ impl<'a> Standing<'a> {
         Standing {
             base,
             are_whole: true,
-            set: HashMap::new(alloc),
+            objects: ObjectForms::new(alloc),
+            others: HashMap::new(alloc),
         }
     }
 
@@ -61,8 +67,34 @@ impl<'a> Standing<'a> {
     pub fn set(&mut self, place: Place, form: Form) -> Result<(), Memory>
         ensures { OnOk result (forms_of self.new ≡ put (forms_of self.old) (plain_place place) form) }
     {
-        self.set.insert(place, form)?;
-        Ok(())
+        match place {
+            Place::Base(object) => self.objects.set(object, form),
+            Place::Named(_) | Place::Fresh(_) | Place::Delta { .. } => {
+                self.others.insert(place, form)?;
+                Ok(())
+            }
+        }
+    }
+
+    /// Begins again, where objects are whole: nothing is set.
+    pub fn begin_objects(&mut self, base: &'a [i64])
+        ensures { forms_of self.new ≡ object_forms (values_of base.now) }
+    {
+        self.base = base;
+        self.are_whole = true;
+        self.objects.clear();
+        self.others.clear();
+    }
+
+    /// The form that was set at a place, if one was.
+    fn get(&self, place: Place) -> Option<&Form>
+        ensures { unwrap_or (option_copied result) (first_forms self.now.are_whole (values_of self.now.base.now) (plain_place place)) ≡
+            forms_of self.now (plain_place place) }
+    {
+        match place {
+            Place::Base(object) => self.objects.get(object),
+            Place::Named(_) | Place::Fresh(_) | Place::Delta { .. } => self.others.get(&place),
+        }
     }
 
     /// A copy of the form at a place.
@@ -73,9 +105,29 @@ impl<'a> Standing<'a> {
     pub fn form_at(&self, alloc: Global, place: Place) -> Result<Form, Memory>
         ensures { IfOk result (λ f. f ≡ forms_of self.now (plain_place place)) }
     {
-        match self.set.get(&place) {
+        match self.get(place) {
             Some(form) => form.copy(alloc),
             None => self.first_form(alloc, place),
+        }
+    }
+
+    /// The form at a place, with a number added as in a sum.
+    pub(crate) fn form_beside(
+        &self,
+        alloc: Global,
+        place: Place,
+        n: i128,
+    ) -> Result<Form, Memory>
+        requires place_small { Numbers (IsSmall form_limit) (forms_of self.now (plain_place place)) }
+        requires number_small { IsSmall form_limit n }
+        ensures { IfOk result (λ f. f ≡ add_forms (constant_form n) (add_forms (forms_of self.now (plain_place place)) (constant_form (pos 0)))) }
+    {
+        match self.get(place) {
+            Some(form) => {
+                let here = form.copy(alloc)?;
+                Ok(here.plus_number(n))
+            }
+            None => self.first_beside(alloc, place, n),
         }
     }
 
@@ -83,7 +135,7 @@ impl<'a> Standing<'a> {
     pub fn is_moved(&self, object: u32) -> bool
         ensures { IsTrue result → IsMoved object (forms_of self.now (BaseAt object)) }
     {
-        match self.set.get(&Place::Base(object)) {
+        match self.get(Place::Base(object)) {
             Some(form) => form.is_moved(object),
             None => false,
         }
@@ -95,7 +147,7 @@ impl<'a> Standing<'a> {
         requires place_small { Numbers (IsSmall form_limit) (forms_of self.now (plain_place place)) }
         ensures { IfOk result (λ f. f ≡ add_forms (forms_of self.now (plain_place place)) total) }
     {
-        match self.set.get(&place) {
+        match self.get(place) {
             Some(form) => total.plus(alloc, form),
             None => self.add_first(place, total),
         }
@@ -113,7 +165,7 @@ impl<'a> Standing<'a> {
         requires negated_small { Numbers (IsSmall form_limit) (scale_form (negsuc 0) (forms_of self.now (plain_place place))) }
         ensures { IfOk result (λ f. f ≡ add_forms (scale_form (negsuc 0) (forms_of self.now (plain_place place))) total) }
     {
-        match self.set.get(&place) {
+        match self.get(place) {
             Some(form) => {
                 let negated = form.times(alloc, -1)?;
                 total.plus(alloc, &negated)
@@ -130,6 +182,21 @@ impl<'a> Standing<'a> {
             object_form(alloc, self.base, place)
         } else {
             base_form(alloc, self.base, place)
+        }
+    }
+
+    /// That form with a number added.
+    fn first_beside(&self, alloc: Global, place: Place, n: i128) -> Result<Form, Memory>
+        requires place_small { Numbers (IsSmall form_limit) (first_forms self.now.are_whole (values_of self.now.base.now) (plain_place place)) }
+        requires number_small { IsSmall form_limit n }
+        ensures { IfOk result (λ f. f ≡ add_forms (constant_form n)
+            (add_forms (first_forms self.now.are_whole (values_of self.now.base.now) (plain_place place)) (constant_form (pos 0)))) }
+    {
+        if self.are_whole {
+            object_beside(alloc, self.base, place, n)
+        } else {
+            let here = base_form(alloc, self.base, place)?;
+            Ok(here.plus_number(n))
         }
     }
 
@@ -171,6 +238,22 @@ fn object_form(alloc: Global, base: &[i64], place: Place) -> Result<Form, Memory
         Place::Base(object) => {
             let value = item_or(base, object as usize, 0);
             Form::object(alloc, value, object)
+        }
+    }
+}
+
+/// That form with a number added.
+#[tactic(auto, unfolding(homeo_plan::specs::Key::definitions, homeo_follow::specs::Key::definitions))]
+fn object_beside(alloc: Global, base: &[i64], place: Place, n: i128) -> Result<Form, Memory>
+    requires place_small { Numbers (IsSmall form_limit) (object_forms (values_of base.now) (plain_place place)) }
+    requires number_small { IsSmall form_limit n }
+    ensures { IfOk result (λ f. f ≡ add_forms (constant_form n) (add_forms (object_forms (values_of base.now) (plain_place place)) (constant_form (pos 0)))) }
+{
+    match place {
+        Place::Named(_) | Place::Fresh(_) | Place::Delta { .. } => Ok(Form::number(alloc, n)),
+        Place::Base(object) => {
+            let value = item_or(base, object as usize, 0);
+            Form::delta_beside(alloc, added(n, value as i128), Delta { object, site: 0 })
         }
     }
 }

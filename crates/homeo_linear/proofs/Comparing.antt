@@ -1,6 +1,9 @@
 -- Comparisons that are kept, and the numbers met in differences.
-use Rattle.std.proofs.Common.{◌≡◌, true, false, cond, List, [], ◌∷◌, ◌++◌, map, ℤ, pos, negsuc, int_lt, refl, sym, ap, ◌∙◌, subst, arith}
+use Rattle.std.proofs.Common.{◌≡◌, Bool, true, false, cond, List, [], ◌∷◌, ◌++◌, map, ℤ, pos, negsuc, ◌+ℤ◌, ◌*ℤ◌, int_lt, int_le, refl, sym, ap, ◌∙◌, subst, arith}
 use Rattle.std.proofs.Math.IntN.{+ℤ_idl}
+use Rattle.std.specs.Ordering.{int_eq}
+use Rattle.std.proofs.lemmas.Bool.Decides.{same_from_decides, Decides-like, Decides-int_eq}
+use Rattle.std.proofs.lemmas.Int.{ints}
 use Rattle.std.proofs.lemmas.List.{append_assoc, map_push}
 use Rattle.homeo_syntax.specs.declared.phrase.Compare.{Compare}
 use Rattle.homeo_syntax.specs.declared.phrase.Compare.TheVariants.{Equal}
@@ -38,6 +41,47 @@ difference_is x y a d n p q = q ∙ ap (add_forms (constant_form n)) p
 
 pub are_apart : (a b : Linear) → Numbers (IsSmall form_limit) a → Numbers (IsSmall form_limit) b → CanSubtract (IsSmall form_limit) a b → AreApart a b
 are_apart a b h k s = record { left = h; right = k; negated = s.negated; apart = s.apart }
+
+-- ---- the constant of the difference tells how the constants compare
+apart_lt : (m n : ℤ) → int_lt (m +ℤ (negsuc 0 *ℤ n)) (pos 0) ≡ int_lt m n
+apart_lt m n = at (int_lt m n) refl
+  where
+    at : (b : Bool) → int_lt m n ≡ b → int_lt (m +ℤ (negsuc 0 *ℤ n)) (pos 0) ≡ b
+    at true e = let k : true ≡ int_lt (m +ℤ (negsuc 0 *ℤ n)) (pos 0) = omega (arith, ints, e) in sym k
+    at false e = let k : false ≡ int_lt (m +ℤ (negsuc 0 *ℤ n)) (pos 0) = omega (arith, ints, e) in sym k
+
+apart_le : (m n : ℤ) → int_le (m +ℤ (negsuc 0 *ℤ n)) (pos 0) ≡ int_le m n
+apart_le m n = at (int_le m n) refl
+  where
+    at : (b : Bool) → int_le m n ≡ b → int_le (m +ℤ (negsuc 0 *ℤ n)) (pos 0) ≡ b
+    at true e = let k : true ≡ int_le (m +ℤ (negsuc 0 *ℤ n)) (pos 0) = omega (arith, ints, e) in sym k
+    at false e = let k : false ≡ int_le (m +ℤ (negsuc 0 *ℤ n)) (pos 0) = omega (arith, ints, e) in sym k
+
+apart_eq : (m n : ℤ) → int_eq (m +ℤ (negsuc 0 *ℤ n)) (pos 0) ≡ int_eq m n
+apart_eq m n =
+    same_from_decides (int_eq (m +ℤ (negsuc 0 *ℤ n)) (pos 0)) (int_eq m n)
+    (Decides-like (int_eq (m +ℤ (negsuc 0 *ℤ n)) (pos 0)) (λ e. omega (arith, ints, e)) (λ e. omega (arith, ints, e)) (Decides-int_eq (m +ℤ (negsuc 0 *ℤ n)) (pos 0)))
+    (Decides-int_eq m n)
+
+module _ (x y a : Linear) (p : a ≡ add_forms x (scale_form (negsuc 0) y)) where
+  pub less_apart : int_lt a.constant (pos 0) ≡ int_lt x.constant y.constant
+  unfolding plan_definitions
+  less_apart = ap (λ (b : Linear). int_lt b.constant (pos 0)) p ∙ apart_lt x.constant y.constant
+
+  pub at_most_apart : int_le a.constant (pos 0) ≡ int_le x.constant y.constant
+  unfolding plan_definitions
+  at_most_apart = ap (λ (b : Linear). int_le b.constant (pos 0)) p ∙ apart_le x.constant y.constant
+
+  pub equal_apart : int_eq a.constant (pos 0) ≡ int_eq x.constant y.constant
+  unfolding plan_definitions
+  equal_apart = ap (λ (b : Linear). int_eq b.constant (pos 0)) p ∙ apart_eq x.constant y.constant
+
+pub less_unequal : (m n : ℤ) → true ≡ int_lt m n → false ≡ int_eq m n
+less_unequal m n h = at (int_eq m n) refl
+  where
+    at : (b : Bool) → int_eq m n ≡ b → false ≡ b
+    at true e = let k : m ≡ n = (Decides-int_eq m n).0 e in absurd (omega (arith, ints, h, k))
+    at false e = refl
 
 -- ---- the atoms of a comparison that holds, and of one that doesn't
 pub kept_true : (op : Compare) (l r : Linear) → true ≡ compared op l.constant r.constant → true_comparison op l r ≡ kept_comparison op l r

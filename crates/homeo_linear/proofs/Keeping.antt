@@ -28,7 +28,7 @@ use Rattle.homeo_follow.specs.Key.{definitions}
 use Rattle.homeo_follow.specs.Follow.{passes_by, holds_by, passed_test, failed_test, passed, failed}
 use Rattle.homeo_follow.proofs.Walked.{holds_at_base, passed_is}
 use Rattle.homeo_plan.specs.Limit.{form_limit}
-use Rattle.homeo_linear.specs.inner.Kept.{AreApart, kept_comparison, kept_test, kept_cond}
+use Rattle.homeo_linear.specs.inner.Kept.{AreSides, kept_comparison, kept_test, kept_cond}
 use Rattle.homeo_form.proofs.FormSteps.{small_form}
 use Rattle.homeo_linear.proofs.Comparing.{are_apart}
 
@@ -98,14 +98,7 @@ module _ (fs : Forms) (t : LTest) where
   unfolding plan_definitions
   not_can c p h = subst (CanTest (IsSmall form_limit) (fs)) (ap plain_ltest p ∙ low_Not c) h
 
-  -- what a comparison asks of its sides
-  pub record SidesCan (x y : LExpr) : Type 0 where
-    pub left : CanForm (IsSmall form_limit) (fs) (plain_lexpr x)
-    pub right : CanForm (IsSmall form_limit) (fs) (plain_lexpr y)
-    pub there : AreApart (form (fs) (plain_lexpr x)) (form (fs) (plain_lexpr y))
-    pub back : AreApart (form (fs) (plain_lexpr y)) (form (fs) (plain_lexpr x))
-
-  pub sides_can : (op : Comparing) (x y : LExpr) → t ≡ Compare op x y → CanTest (IsSmall form_limit) (fs) (plain_ltest t) → SidesCan x y
+  pub sides_can : (op : Comparing) (x y : LExpr) → t ≡ Compare op x y → CanTest (IsSmall form_limit) (fs) (plain_ltest t) → AreSides fs (plain_lexpr x) (plain_lexpr y)
   unfolding plan_definitions
   sides_can op x y p h =
       let k : CanTest (IsSmall form_limit) (fs) (l.Comparison op (plain_lexpr x) (plain_lexpr y)) =
@@ -138,25 +131,14 @@ module _ (fs : Forms) (t : LTest) where
       swap false xs zs = refl
 
   pub comparison_passes :
-      (op : Comparing) (x y : LExpr) (m n : Linear) → t ≡ Compare op x y → m ≡ form (fs) (plain_lexpr x) → n ≡ form (fs) (plain_lexpr y) →
-      compared op m.constant n.constant ≡ passes_by fs (plain_ltest t)
+      (op : Comparing) (x y : LExpr) → t ≡ Compare op x y → compared op (form fs (plain_lexpr x)).constant (form fs (plain_lexpr y)).constant ≡ passes_by fs (plain_ltest t)
   unfolding definitions
-  comparison_passes op x y m n p q r =
-      ap₂ (λ (f g : Linear). compared op f.constant g.constant) q r
-      ∙ sym (ap (λ z. passes_by fs (plain_ltest z)) p ∙ ap (λ z. passes_by fs z) (low_Compare op x y))
+  comparison_passes op x y p = sym (ap (λ z. passes_by fs (plain_ltest z)) p ∙ ap (λ z. passes_by fs z) (low_Compare op x y))
 
   pub comparison_kept :
-      (op : Comparing) (x y : LExpr) (m n : Linear) → t ≡ Compare op x y → m ≡ form (fs) (plain_lexpr x) → n ≡ form (fs) (plain_lexpr y) →
-      kept_comparison op m n ≡ kept_test fs (plain_ltest t)
+      (op : Comparing) (x y : LExpr) → t ≡ Compare op x y → kept_comparison op (form fs (plain_lexpr x)) (form fs (plain_lexpr y)) ≡ kept_test fs (plain_ltest t)
   unfolding definitions plan_definitions
-  comparison_kept op x y m n p q r =
-      let f = form (fs) (plain_lexpr x) in
-      let g = form (fs) (plain_lexpr y) in
-      ap₂ (kept_comparison op) q r
-      ∙ sym (ap (λ z. kept_test fs (plain_ltest z)) p ∙ ap (kept_test fs) (low_Compare op x y))
-
-pub same_apart : {a a' b b' : Linear} → a ≡ a' → b ≡ b' → AreApart a' b' → AreApart a b
-same_apart {a} {a'} {b} {b'} p q h = subst (λ x. AreApart x b) (sym p) (subst (AreApart a') (sym q) h)
+  comparison_kept op x y p = sym (ap (λ z. kept_test fs (plain_ltest z)) p ∙ ap (kept_test fs) (low_Compare op x y))
 
 -- ---- the next test fails, or passes
 pub test_fails :

@@ -1,125 +1,156 @@
-//! Comparisons of forms, and the atoms that keep them as they are at a base.
+//! Comparisons of expressions, and the atoms that keep them as they are at a base.
 
 ghost use Rattle.std.specs.Prelude.{◌≡◌, ◌++◌, pos, map, int_lt, int_le, IfOk, OnOk};
 ghost use Rattle.std.specs.Ordering.{int_eq};
+ghost use Rattle.homeo_syntax.specs.LowView.{plain_lexpr};
 ghost use Rattle.homeo_syntax.specs.declared.phrase.Compare.TheVariants.{Less, LessEqual, Equal};
 ghost use Rattle.homeo_meaning.specs.Meaning.{compared};
-ghost use Rattle.homeo_plan.specs.Atoms.{difference};
+ghost use Rattle.homeo_meaning.specs.Small.{IsSmall};
+ghost use Rattle.homeo_plan.specs.Limit.{form_limit};
+ghost use Rattle.homeo_plan.specs.Linear.{constant_form, add_forms, form};
 ghost use Rattle.homeo_plan.specs.PlanView.{plain_atom};
-ghost use Rattle.homeo_linear.specs.inner.Kept.{AreApart, kept_comparison};
+ghost use Rattle.homeo_form.specs.Standing.{forms_of};
+ghost use Rattle.homeo_linear.specs.inner.Kept.{AreSides, kept_comparison};
 
-use homeo_form::Form;
+use homeo_form::{Form, Standing, expression_difference};
 use homeo_plan::Atom;
-use homeo_syntax::{Compare, Memory};
+use homeo_syntax::{Compare, LExpr, Memory};
 use std::alloc::Global;
 
-fn is_less(left: &Form, right: &Form) -> bool
-    ensures { result ≡ int_lt left.now.constant right.now.constant }
+fn is_less(apart: &Form) -> bool
+    ensures { result ≡ int_lt apart.now.constant (pos 0) }
 {
-    left.constant() < right.constant()
+    apart.constant() < 0
 }
 
-fn is_at_most(left: &Form, right: &Form) -> bool
-    ensures { result ≡ int_le left.now.constant right.now.constant }
+fn is_at_most(apart: &Form) -> bool
+    ensures { result ≡ int_le apart.now.constant (pos 0) }
 {
-    left.constant() <= right.constant()
+    apart.constant() <= 0
 }
 
-fn is_equal(left: &Form, right: &Form) -> bool
-    ensures { result ≡ int_eq left.now.constant right.now.constant }
+fn is_equal(apart: &Form) -> bool
+    ensures { result ≡ int_eq apart.now.constant (pos 0) }
 {
-    left.constant() == right.constant()
+    apart.constant() == 0
 }
 
-/// That a form is at most another.
-fn at_most(alloc: Global, left: Form, right: Form) -> Result<Atom, Memory>
-    requires { AreApart left right }
-    ensures { IfOk result (λ a. plain_atom a ≡ difference left right (pos 0)) }
+/// That the first side is at most the second, by their difference.
+fn at_most(apart: Form) -> Atom
+    ensures { plain_atom result ≡ apart }
 {
-    let apart = left.minus(alloc, right)?;
-    Ok(Atom {
+    Atom {
         form: apart.into_linear(),
-    })
+    }
 }
 
-/// That a form is less than another: of whole numbers, that one more is at most the other.
-fn less(alloc: Global, left: Form, right: Form) -> Result<Atom, Memory>
-    requires { AreApart left right }
-    ensures { IfOk result (λ a. plain_atom a ≡ difference left right (pos 1)) }
+/// That it is less: of whole numbers, that one more is at most the other.
+fn less(apart: Form) -> Atom
+    requires { IsSmall form_limit apart.constant }
+    ensures { plain_atom result ≡ add_forms (constant_form (pos 1)) apart }
 {
-    let apart = left.minus(alloc, right)?;
     let form = apart.plus_number(1);
-    Ok(Atom {
+    Atom {
         form: form.into_linear(),
-    })
+    }
 }
 
-/// Whether a comparison holds at a base, by the forms of its sides there. The atoms that keep it so are put behind the others.
+/// Whether a comparison holds at a base, by the form of the difference of its sides there. The atoms that keep it so are put behind
+/// the others.
 pub(crate) fn comparison(
     alloc: Global,
+    standing: &Standing,
     op: Compare,
-    left: Form,
-    right: Form,
+    left: &LExpr,
+    right: &LExpr,
     atoms: &mut Vec<Atom>,
 ) -> Result<bool, Memory>
-    requires there { AreApart left right }
-    requires back { AreApart right left }
-    ensures holds { IfOk result (λ b. b ≡ compared op left.constant right.constant) }
-    ensures atoms { OnOk result (map plain_atom atoms.new.items ≡ map plain_atom atoms.old.items ++ kept_comparison op left right) }
+    requires { AreSides (forms_of standing.now) (plain_lexpr left.now) (plain_lexpr right.now) }
+    ensures holds { IfOk result (λ b. b ≡ compared op (form (forms_of standing.now) (plain_lexpr left.now)).constant
+        (form (forms_of standing.now) (plain_lexpr right.now)).constant) }
+    ensures atoms { OnOk result (map plain_atom atoms.new.items ≡ map plain_atom atoms.old.items ++
+        kept_comparison op (form (forms_of standing.now) (plain_lexpr left.now)) (form (forms_of standing.now) (plain_lexpr right.now))) }
 {
     match op {
-        Compare::Less => by_less(alloc, left, right, atoms),
-        Compare::LessEqual => by_at_most(alloc, left, right, atoms),
-        Compare::Equal => by_equal(alloc, left, right, atoms),
+        Compare::Less => by_less(alloc, standing, left, right, atoms),
+        Compare::LessEqual => by_at_most(alloc, standing, left, right, atoms),
+        Compare::Equal => by_equal(alloc, standing, left, right, atoms),
     }
 }
 
-fn by_less(alloc: Global, left: Form, right: Form, atoms: &mut Vec<Atom>) -> Result<bool, Memory>
-    requires there { AreApart left right }
-    requires back { AreApart right left }
-    ensures holds { IfOk result (λ b. b ≡ compared Less left.constant right.constant) }
-    ensures atoms { OnOk result (map plain_atom atoms.new.items ≡ map plain_atom atoms.old.items ++ kept_comparison Less left right) }
+fn by_less(
+    alloc: Global,
+    standing: &Standing,
+    left: &LExpr,
+    right: &LExpr,
+    atoms: &mut Vec<Atom>,
+) -> Result<bool, Memory>
+    requires { AreSides (forms_of standing.now) (plain_lexpr left.now) (plain_lexpr right.now) }
+    ensures holds { IfOk result (λ b. b ≡ compared Less (form (forms_of standing.now) (plain_lexpr left.now)).constant
+        (form (forms_of standing.now) (plain_lexpr right.now)).constant) }
+    ensures atoms { OnOk result (map plain_atom atoms.new.items ≡ map plain_atom atoms.old.items ++
+        kept_comparison Less (form (forms_of standing.now) (plain_lexpr left.now)) (form (forms_of standing.now) (plain_lexpr right.now))) }
 {
-    if is_less(&left, &right) {
-        atoms.push(less(alloc, left, right)?)?;
+    let apart = expression_difference(alloc, standing, left, right)?;
+    if is_less(&apart) {
+        atoms.push(less(apart))?;
         Ok(true)
     } else {
-        atoms.push(at_most(alloc, right, left)?)?;
+        let back = expression_difference(alloc, standing, right, left)?;
+        atoms.push(at_most(back))?;
         Ok(false)
     }
 }
 
-fn by_at_most(alloc: Global, left: Form, right: Form, atoms: &mut Vec<Atom>) -> Result<bool, Memory>
-    requires there { AreApart left right }
-    requires back { AreApart right left }
-    ensures holds { IfOk result (λ b. b ≡ compared LessEqual left.constant right.constant) }
-    ensures atoms { OnOk result (map plain_atom atoms.new.items ≡ map plain_atom atoms.old.items ++ kept_comparison LessEqual left right) }
+fn by_at_most(
+    alloc: Global,
+    standing: &Standing,
+    left: &LExpr,
+    right: &LExpr,
+    atoms: &mut Vec<Atom>,
+) -> Result<bool, Memory>
+    requires { AreSides (forms_of standing.now) (plain_lexpr left.now) (plain_lexpr right.now) }
+    ensures holds { IfOk result (λ b. b ≡ compared LessEqual (form (forms_of standing.now) (plain_lexpr left.now)).constant
+        (form (forms_of standing.now) (plain_lexpr right.now)).constant) }
+    ensures atoms { OnOk result (map plain_atom atoms.new.items ≡ map plain_atom atoms.old.items ++
+        kept_comparison LessEqual (form (forms_of standing.now) (plain_lexpr left.now)) (form (forms_of standing.now) (plain_lexpr right.now))) }
 {
-    if is_at_most(&left, &right) {
-        atoms.push(at_most(alloc, left, right)?)?;
+    let apart = expression_difference(alloc, standing, left, right)?;
+    if is_at_most(&apart) {
+        atoms.push(at_most(apart))?;
         Ok(true)
     } else {
-        atoms.push(less(alloc, right, left)?)?;
+        let back = expression_difference(alloc, standing, right, left)?;
+        atoms.push(less(back))?;
         Ok(false)
     }
 }
 
-fn by_equal(alloc: Global, left: Form, right: Form, atoms: &mut Vec<Atom>) -> Result<bool, Memory>
-    requires there { AreApart left right }
-    requires back { AreApart right left }
-    ensures holds { IfOk result (λ b. b ≡ compared Equal left.constant right.constant) }
-    ensures atoms { OnOk result (map plain_atom atoms.new.items ≡ map plain_atom atoms.old.items ++ kept_comparison Equal left right) }
+fn by_equal(
+    alloc: Global,
+    standing: &Standing,
+    left: &LExpr,
+    right: &LExpr,
+    atoms: &mut Vec<Atom>,
+) -> Result<bool, Memory>
+    requires { AreSides (forms_of standing.now) (plain_lexpr left.now) (plain_lexpr right.now) }
+    ensures holds { IfOk result (λ b. b ≡ compared Equal (form (forms_of standing.now) (plain_lexpr left.now)).constant
+        (form (forms_of standing.now) (plain_lexpr right.now)).constant) }
+    ensures atoms { OnOk result (map plain_atom atoms.new.items ≡ map plain_atom atoms.old.items ++
+        kept_comparison Equal (form (forms_of standing.now) (plain_lexpr left.now)) (form (forms_of standing.now) (plain_lexpr right.now))) }
 {
-    if is_equal(&left, &right) {
-        let there = at_most(alloc, left.copy(alloc)?, right.copy(alloc)?)?;
-        atoms.push(there)?;
-        atoms.push(at_most(alloc, right, left)?)?;
+    let apart = expression_difference(alloc, standing, left, right)?;
+    if is_less(&apart) {
+        atoms.push(less(apart))?;
+        return Ok(false);
+    }
+    let back = expression_difference(alloc, standing, right, left)?;
+    if is_equal(&apart) {
+        atoms.push(at_most(apart))?;
+        atoms.push(at_most(back))?;
         Ok(true)
-    } else if is_less(&left, &right) {
-        atoms.push(less(alloc, left, right)?)?;
-        Ok(false)
     } else {
-        atoms.push(less(alloc, right, left)?)?;
+        atoms.push(less(back))?;
         Ok(false)
     }
 }

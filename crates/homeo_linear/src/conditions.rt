@@ -11,7 +11,7 @@ ghost use Rattle.homeo_form.specs.Standing.{forms_of};
 ghost use Rattle.homeo_linear.specs.inner.Kept.{kept_test, kept_cond};
 
 use crate::comparisons::comparison;
-use homeo_form::{Standing, expression_form};
+use homeo_form::Standing;
 use homeo_plan::Atom;
 use homeo_syntax::{LCond, LTest, Memory};
 use std::alloc::Global;
@@ -36,11 +36,7 @@ fn test(
             let holds = condition(alloc, standing, c, atoms)?;
             Ok(!holds)
         }
-        LTest::Compare { op, left, right } => {
-            let left = expression_form(alloc, standing, left)?;
-            let right = expression_form(alloc, standing, right)?;
-            comparison(alloc, *op, left, right, atoms)
-        }
+        LTest::Compare { op, left, right } => comparison(alloc, standing, *op, left, right, atoms),
     }
 }
 

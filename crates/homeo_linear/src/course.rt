@@ -9,12 +9,11 @@ ghost use Rattle.homeo_meaning.specs.Small.{IsSmall};
 ghost use Rattle.homeo_plan.specs.FormSizes.{Numbers, CanForm, CanCond};
 ghost use Rattle.homeo_plan.specs.Limit.{form_limit};
 ghost use Rattle.homeo_plan.specs.Linear.{add_deltas, support};
-ghost use Rattle.homeo_plan.specs.PlanView.{plain_atoms};
 ghost use Rattle.homeo_follow.specs.Brought.{brought, plain_part};
 ghost use Rattle.homeo_follow.specs.Follow.{nothing, and_then, asked, holds_by, follow, follow_all, object_delta, object_forms, object_of, followed, gain, print_needs, write_needs, needed};
 ghost use Rattle.homeo_follow.specs.FollowSizes.{AreNumbers, CanBeFollowed, CanAllBeFollowed};
 ghost use Rattle.homeo_form.specs.Standing.{forms_of};
-ghost use Rattle.homeo_linear.specs.inner.Course.{followed_so};
+ghost use Rattle.homeo_linear.specs.inner.Course.{brought_by, followed_so};
 ghost use Rattle.homeo_linear.specs.inner.Kept.{kept_cond};
 
 use crate::conditions::condition;
@@ -48,6 +47,38 @@ impl<'a> Course<'a> {
             prints: Vec::new(alloc),
             written: Vec::new(alloc),
         }
+    }
+
+    /// Begins again, where nothing was followed.
+    fn begin(&mut self, base: &'a [i64])
+        ensures { followed_so self.new ≡ nothing (object_forms (values_of base.now)) }
+    {
+        self.standing.begin_objects(base);
+        self.atoms.clear();
+        self.prints.clear();
+        self.written.clear();
+    }
+
+    /// What it brings, where it ends here: its atoms and its prints are taken.
+    fn part(&mut self, alloc: Global, base: &[i64]) -> Result<PlanPart, Memory>
+        requires left { AreNumbers (IsSmall form_limit) (forms_of self.old.standing) }
+        requires base { (x : ℕ) → IsSmall form_limit (values_of base.now x) }
+        ensures { IfOk result (λ p. plain_part p ≡ brought_by (values_of base.now) (followed_so self.old)) }
+    {
+        let written = Vec::from_slice(alloc, self.written.as_slice())?;
+        let mut prints = Vec::new(alloc);
+        prints.append(&mut self.prints)?;
+        let needed = needed(alloc, base, &self.standing, written, prints)?;
+        let mut atoms = Vec::with_capacity(alloc, self.atoms.len())?;
+        atoms.append(&mut self.atoms)?;
+        Ok(PlanPart {
+            atoms: AtomSet {
+                atoms: List::from_vec(atoms),
+            },
+            needs: FreezeSet {
+                deltas: List::from_vec(needed),
+            },
+        })
     }
 
     /// Whether a condition holds at the base, after its atoms are asked.
@@ -159,23 +190,46 @@ pub fn follow_at(alloc: Global, command: &LCommand, base: &Database) -> Result<P
     requires base { (x : ℕ) → IsSmall form_limit (values_of base.now.items x) }
     ensures { IfOk result (λ p. plain_part p ≡ brought (values_of base.now.items) (plain_lcommand command.now)) }
 {
-    let mut course = Course::new(alloc, base.as_slice());
-    follow(alloc, command, &mut course)?;
-    let Course {
-        standing,
-        atoms,
-        prints,
-        written,
-    } = course;
-    let needed = needed(alloc, base.as_slice(), &standing, written, prints)?;
-    Ok(PlanPart {
-        atoms: AtomSet {
-            atoms: List::from_vec(atoms),
-        },
-        needs: FreezeSet {
-            deltas: List::from_vec(needed),
-        },
-    })
+    let mut follower = Follower::new(alloc, base);
+    follower.part(alloc, command)
+}
+
+/// Follows commands at a base, one after another.
+#[derive(Drop)]
+pub struct Follower<'a> {
+    base: &'a [i64],
+    course: Course<'a>,
+}
+
+impl<'a> Follower<'a> {
+    /// At this base.
+    pub fn new(alloc: Global, base: &'a Database) -> Follower<'a>
+        ensures { result.base.now ≡ base.now.items }
+    {
+        let base = base.as_slice();
+        Follower {
+            base,
+            course: Course::new(alloc, base),
+        }
+    }
+
+    /// What a command brings, as `follow_at` says.
+    ///
+    /// # Errors
+    ///
+    /// `Memory` when out of memory.
+    pub fn part(&mut self, alloc: Global, command: &LCommand) -> Result<PlanPart, Memory>
+        requires can { CanBeFollowed (IsSmall form_limit) (object_forms (values_of self.old.base.now)) (plain_lcommand command.now) }
+        requires left { AreNumbers (IsSmall form_limit) (followed (values_of self.old.base.now) (plain_lcommand command.now)).forms }
+        requires base { (x : ℕ) → IsSmall form_limit (values_of self.old.base.now x) }
+        ensures base { self.new.base.now ≡ self.old.base.now }
+        ensures part { IfOk result (λ p. plain_part p ≡ brought (values_of self.old.base.now) (plain_lcommand command.now)) }
+    {
+        let base = self.base;
+        self.course.begin(base);
+        follow(alloc, command, &mut self.course)?;
+        self.course.part(alloc, base)
+    }
 }
 
 /// What the forms of prints, and the gains of the objects written, depend on.

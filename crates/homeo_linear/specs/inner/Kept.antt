@@ -1,12 +1,12 @@
 -- What keeps a comparison, test or condition as it is at a base.
 use Rattle.std.specs.Prelude.{cond, List, negsuc, int_lt}
 use Rattle.homeo_syntax.specs.declared.phrase.Compare.{Compare}
-use Rattle.homeo_syntax.specs.Low.{Test, Cond}
+use Rattle.homeo_syntax.specs.Low.{Expr, Test, Cond}
 use Rattle.homeo_meaning.specs.Meaning.{compared}
 use Rattle.homeo_meaning.specs.Small.{IsSmall}
 use Rattle.homeo_plan.specs.Atoms.{true_comparison, false_comparison}
-use Rattle.homeo_plan.specs.FormSizes.{Numbers}
-use Rattle.homeo_plan.specs.Linear.{Linear, Forms, add_forms, scale_form}
+use Rattle.homeo_plan.specs.FormSizes.{Numbers, CanForm}
+use Rattle.homeo_plan.specs.Linear.{Linear, Forms, add_forms, scale_form, form}
 use Rattle.homeo_plan.specs.Limit.{form_limit}
 use Rattle.homeo_follow.specs.Follow.{passes_by, holds_by, passed_test, failed_test, passed, failed}
 
@@ -18,6 +18,13 @@ pub record AreApart (a b : Linear) : Type 0 where
   pub apart : Numbers (IsSmall form_limit) (add_forms a (scale_form (negsuc 0) b))
 
 -- whether the comparison holds at the base is seen by the constants of the forms
+-- the forms of both sides of a comparison, and their differences
+pub record AreSides (f : Forms) (x y : Expr) : Type 0 where
+  pub left : CanForm (IsSmall form_limit) f x
+  pub right : CanForm (IsSmall form_limit) f y
+  pub there : AreApart (form f x) (form f y)
+  pub back : AreApart (form f y) (form f x)
+
 abbrev pub kept_comparison : Compare → Linear → Linear → List Linear
 kept_comparison op a b =
     cond (compared op a.constant b.constant) (true_comparison op a b) (false_comparison op (int_lt a.constant b.constant) a b)

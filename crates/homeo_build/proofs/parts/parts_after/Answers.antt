@@ -1,9 +1,12 @@
 -- Of each form what it brings is put behind the others, be it kept or made; what is kept is rebased.
-use Rattle.std.proofs.Common.{rules, sym, ap, true≢false, ◌∙◌}
+use Rattle.std.proofs.Common.{ℕ, rules, sym, subst, ap, true≢false, ◌∙◌}
 use Rattle.homeo_syntax.specs.LowView.{plain_lcommand}
 use Rattle.homeo_syntax.specs.SourceView.{plain_workload}
 use Rattle.homeo_meaning.specs.Serial.{values_of}
-use Rattle.homeo_follow.specs.Brought.{plain_part}
+use Rattle.homeo_meaning.specs.Small.{IsSmall}
+use Rattle.homeo_plan.specs.Limit.{form_limit}
+use Rattle.homeo_follow.specs.Brought.{brought, plain_part}
+use Rattle.homeo_build.specs.inner.Followed.{IsSmallAlong}
 use Rattle.homeo_follow.specs.Rebased.{rebased, gains}
 use Rattle.homeo_build.proofs.Following.{small_at, small_base, shared_part, shared_moved, lent_brought, forms_lent, parts_lent, names_lent, parts_all, all_moved, part_within, names_within, part_of, names_of, kept_stays, kept_rebased}
 use Rattle.homeo_build.proofs.Grown.{grown}
@@ -65,6 +68,7 @@ part_after-requires-clause-kept c = λ yes.
     kept_stays last.base.items c.args.base.now.items c.as_slice-from.result.now c.as_slice-to.result.now c.as_slice-from.ensures c.as_slice-to.ensures
     (plain_lcommand c.form-item.result) c.as_slice.result.now (shared_part c.index-kept-i.result) named_is old
     (sym c.have_same_values-stays.ensures ∙ yes)
+    ∙ ap (λ b. brought (values_of b) (plain_lcommand c.form-item.result)) (sym c.loop-i.invariant.follower)
 
 pub part_after-requires-clause-form : goal.part_after-requires-clause-form
 part_after-requires-clause-form c =
@@ -72,11 +76,14 @@ part_after-requires-clause-form c =
     let fs = c.as_slice-form-items.result.now in
     let made = c.forms-forms.result.now in
     let forms = forms_lent w made.forms.items fs made.places.items c.as_slice-form-items.ensures c.forms-forms.ensures.forms in
-    small_at w c.args.base.now.items c.requires.accepted c.requires.within fs c.loop-i.i c.form-item.result forms.made
-    c.loop-i-test.true c.form-item.is
+    subst (λ b. IsSmallAlong (values_of b) (plain_lcommand c.form-item.result)) (sym c.loop-i.invariant.follower)
+    (small_at w c.args.base.now.items c.requires.accepted c.requires.within fs c.loop-i.i c.form-item.result forms.made
+    c.loop-i-test.true c.form-item.is)
 
 pub part_after-requires-clause-base : goal.part_after-requires-clause-base
-part_after-requires-clause-base c = small_base (plain_workload c.args.c.now) c.args.base.now.items c.requires.accepted c.requires.within
+part_after-requires-clause-base c =
+    subst (λ b. (x : ℕ) → IsSmall form_limit (values_of b x)) (sym c.loop-i.invariant.follower)
+    (small_base (plain_workload c.args.c.now) c.args.base.now.items c.requires.accepted c.requires.within)
 
 pub is_rebased_part-are_rebased-requires : goal.is_rebased_part-are_rebased-requires
 is_rebased_part-are_rebased-requires c = λ yes.
@@ -101,7 +108,7 @@ is_rebased_part-are_rebased-requires c = λ yes.
     (plain_lcommand c.form-item.result) c.as_slice.result.now (shared_part c.index-kept-i.result) named_is old
     (sym c.have_same_values-stays.ensures ∙ yes) in
     let g = gains (values_of c.as_slice-from.result.now) (values_of c.as_slice-to.result.now) in
-    ap plain_part c.deref-then-are_rebased.ensures ∙ c.in_ok-part.ensures ∙ moved ∙ ap (λ p. rebased g (plain_part p)) (sym c.deref.ensures)
+    ap plain_part c.deref-then-are_rebased.ensures ∙ (c.in_ok-part.ensures.part ∙ ap (λ b. brought (values_of b) (plain_lcommand c.form-item.result)) c.loop-i.invariant.follower) ∙ moved ∙ ap (λ p. rebased g (plain_part p)) (sym c.deref.ensures)
 
 pub loop-i-preserved : goal.loop-i-preserved
 loop-i-preserved c =
@@ -117,10 +124,14 @@ loop-i-preserved c =
     names_lent made.forms.items fs made.names.items lent c.as_slice-form-items.ensures c.as_slice-names.ensures.value c.forms-forms.ensures.names in
     let base = c.args.base.now.items in
     let within = part_within (values_of last.base.items) fs kept lent c.loop-i.i parts names c.loop-i-test.true in
-    let pushed = ap (λ l. l.items) c.in_ok-push.ensures.ok in (
-      grown shared_part (lent_brought (values_of base)) c.loop-i.parts.items _ _ fs c.loop-i.i c.form-item.result c.loop-i-test.true c.form-item.is
-          pushed c.loop-i.invariant.0 c.in_ok-part.ensures,
-      λ yes. elim c.if-are_rebased.branch [
+    let pushed = ap (λ l. l.items) c.in_ok-push.ensures.ok in
+    let brings = c.in_ok-part.ensures.part ∙ ap (λ b. brought (values_of b) (plain_lcommand c.form-item.result)) c.loop-i.invariant.follower in
+    record {
+      follower = c.part_after.ensures.follower ∙ c.loop-i.invariant.follower;
+      parts =
+          grown shared_part (lent_brought (values_of base)) c.loop-i.parts.items _ _ fs c.loop-i.i c.form-item.result c.loop-i-test.true c.form-item.is
+          pushed c.loop-i.invariant.parts brings;
+      rebased = λ yes. elim c.if-are_rebased.branch [
         | then-are_rebased w ↦ (
             let found = w.is_rebased_part-are_rebased.ensures (sym w.are_rebased-is ∙ yes) in
             let from = c.as_slice-from.ensures in
@@ -129,11 +140,11 @@ loop-i-preserved c =
             sym (ap plain_part w.deref-then-are_rebased.ensures) ∙ found
             ∙ (λ i. rebased (gains (values_of (from i)) (values_of (to i))) (plain_part (w.deref.ensures i))) in
             grown shared_part (shared_moved last.base.items base) c.loop-i.parts.items _ _ kept c.loop-i.i c.index-kept-i.result within c.index-kept-i.is
-            pushed (c.loop-i.invariant.1 w.if-are_rebased.true) moved
+            pushed (c.loop-i.invariant.rebased w.if-are_rebased.true) moved
             )
         | else-are_rebased w ↦ absurd (true≢false (sym yes ∙ w.are_rebased-is ∙ w.if-are_rebased.false))
-      ],
-    )
+      ];
+    }
 
 pub returns-clause-parts : goal.returns-clause-parts
 returns-clause-parts c =
@@ -142,7 +153,7 @@ returns-clause-parts c =
     let made = c.forms-forms.result.now in
     let forms = forms_lent w made.forms.items fs made.places.items c.as_slice-form-items.ensures c.forms-forms.ensures.forms in
     parts_all w c.args.base.now.items fs made.places.items c.loop-i.parts.items c.loop-i.i forms
-    c.loop-i-test.false c.loop-i.invariant.0
+    c.loop-i-test.false c.loop-i.invariant.parts
 
 pub returns-clause-rebased : goal.returns-clause-rebased
 returns-clause-rebased c = λ yes.
@@ -154,4 +165,4 @@ returns-clause-rebased c = λ yes.
     let kept = c.as_slice-kept.result.now in
     let parts = parts_lent w last.base.items fs made.places.items last.parts.items kept forms c.as_slice-kept.ensures c.requires.last.parts in
     all_moved last.base.items c.args.base.now.items fs last.parts.items kept c.loop-i.parts.items c.loop-i.i c.as_slice-kept.ensures parts
-    c.loop-i-test.false (c.loop-i.invariant.1 yes)
+    c.loop-i-test.false (c.loop-i.invariant.rebased yes)

@@ -5,30 +5,16 @@ use Rattle.homeo_syntax.specs.LowView.{low_tests, plain_ltest}
 use Rattle.homeo_syntax.specs.declared.low.LTest.{the_lemmas}
 use Rattle.homeo_plan.specs.PlanView.{plain_atom}
 use Rattle.homeo_form.specs.Standing.{forms_of}
-use Rattle.homeo_linear.proofs.Keeping.{same_apart, not_can, sides_can, true_passes, true_kept, not_passes, not_kept, comparison_passes, comparison_kept, test_step, test_fails, test_passes, tests_hold, none_passed, one_more_passed, all_passed, others_within, failed_stays}
+use Rattle.homeo_linear.proofs.Keeping.{not_can, sides_can, true_passes, true_kept, not_passes, not_kept, comparison_passes, comparison_kept, test_step, test_fails, test_passes, tests_hold, none_passed, one_more_passed, all_passed, others_within, failed_stays}
 use Rattle.homeo_linear.proofs.conditions.+conditions.Goals as goal
 
 pub test-condition-requires : goal.test-condition-requires
 test-condition-requires t c =
     (search (rules, the_lemmas), not_can (forms_of c.args.standing.now) c.args.t.now c.in-Not.c c.in-Not.is c.requires)
 
-pub test-form-requires : goal.test-form-requires
-test-form-requires t c =
-    (sides_can (forms_of c.args.standing.now) c.args.t.now c.in-Compare.op c.in-Compare.left c.in-Compare.right c.in-Compare.is c.requires).left
-
-pub test-form-requires-in-Compare : goal.test-form-requires-in-Compare
-test-form-requires-in-Compare t c =
-    (sides_can (forms_of c.args.standing.now) c.args.t.now c.in-Compare.op c.in-Compare.left c.in-Compare.right c.in-Compare.is c.requires).right
-
-pub test-comparison-requires-clause-there : goal.test-comparison-requires-clause-there
-test-comparison-requires-clause-there t c =
-    same_apart c.in_ok-left-in-Compare.ensures c.in_ok-right-in-Compare.ensures
-    (sides_can (forms_of c.args.standing.now) c.args.t.now c.in-Compare.op c.in-Compare.left c.in-Compare.right c.in-Compare.is c.requires).there
-
-pub test-comparison-requires-clause-back : goal.test-comparison-requires-clause-back
-test-comparison-requires-clause-back t c =
-    same_apart c.in_ok-right-in-Compare.ensures c.in_ok-left-in-Compare.ensures
-    (sides_can (forms_of c.args.standing.now) c.args.t.now c.in-Compare.op c.in-Compare.left c.in-Compare.right c.in-Compare.is c.requires).back
+pub test-comparison-requires : goal.test-comparison-requires
+test-comparison-requires t c =
+    sides_can (forms_of c.args.standing.now) c.args.t.now c.in-Compare.op c.in-Compare.left c.in-Compare.right c.in-Compare.is c.requires
 
 pub test-returns-in-True-clause-holds : goal.test-returns-in-True-clause-holds
 test-returns-in-True-clause-holds t c = true_passes (forms_of c.args.standing.now) c.args.t.now c.in-True.is
@@ -46,18 +32,18 @@ test-returns-in_ok-holds-in-Not-clause-atoms t c =
     c.in_ok-holds-in-Not.ensures.atoms
     ∙ ap (λ l. map plain_atom c.args.atoms.now.items ++ l) (not_kept (forms_of c.args.standing.now) c.args.t.now c.in-Not.c c.in-Not.is)
 
-pub test-returns-in_ok-right-in-Compare-clause-holds : goal.test-returns-in_ok-right-in-Compare-clause-holds
-test-returns-in_ok-right-in-Compare-clause-holds t c =
+pub test-returns-in-Compare-clause-holds : goal.test-returns-in-Compare-clause-holds
+test-returns-in-Compare-clause-holds t c =
     IfOk-weaker c.comparison.result _ _
-    (λ b h. h ∙ comparison_passes (forms_of c.args.standing.now) c.args.t.now c.in-Compare.op c.in-Compare.left c.in-Compare.right _ _ c.in-Compare.is
-    c.in_ok-left-in-Compare.ensures c.in_ok-right-in-Compare.ensures) c.comparison.ensures.holds
+    (λ b h. h ∙ comparison_passes (forms_of c.args.standing.now) c.args.t.now c.in-Compare.op c.in-Compare.left c.in-Compare.right c.in-Compare.is)
+    c.comparison.ensures.holds
 
-pub test-returns-in_ok-right-in-Compare-clause-atoms : goal.test-returns-in_ok-right-in-Compare-clause-atoms
-test-returns-in_ok-right-in-Compare-clause-atoms t c =
+pub test-returns-in-Compare-clause-atoms : goal.test-returns-in-Compare-clause-atoms
+test-returns-in-Compare-clause-atoms t c =
     on_ok_weaker c.comparison.result
     (λ h. h ∙ ap (λ l. map plain_atom c.args.atoms.now.items ++ l)
-    (comparison_kept (forms_of c.args.standing.now) c.args.t.now c.in-Compare.op c.in-Compare.left c.in-Compare.right _ _ c.in-Compare.is
-    c.in_ok-left-in-Compare.ensures c.in_ok-right-in-Compare.ensures)) c.comparison.ensures.atoms
+    (comparison_kept (forms_of c.args.standing.now) c.args.t.now c.in-Compare.op c.in-Compare.left c.in-Compare.right c.in-Compare.is))
+    c.comparison.ensures.atoms
 
 pub tests-test-requires : goal.tests-test-requires
 tests-test-requires t c =

@@ -1,6 +1,5 @@
 -- One term.
-use Rattle.std.proofs.Common.{◌++◌, ◌∷◌, [], List, pos, refl, ap, ◌∙◌}
-use Rattle.homeo_plan.specs.declared.forms.Term.{Term}
+use Rattle.std.proofs.Common.{◌∷◌, [], pos, refl}
 use Rattle.homeo_form.specs.inner.Key.{definitions}
 use Rattle.homeo_form.proofs.FormParts.{one_in_order, same_form}
 use Rattle.homeo_form.proofs.Widths.{kept_is}
@@ -8,13 +7,10 @@ use Rattle.homeo_form.proofs.form.Form.delta_beside.Goals as goal
 
 pub invariant_of-result : goal.invariant_of-result
 invariant_of-result c =
-    one_in_order c.args.delta c.push.new.self.items c.new-terms.result.items c.new.result.items c.new-terms.ensures.items c.in_ok-push.ensures.items
-    c.new.ensures.items
+    one_in_order c.args.delta c.in_ok-terms.terms.items [] c.new.result.items refl c.in_ok-terms.ensures.items c.new.ensures.items
 
 pub returns : goal.returns
 unfolding definitions
 returns c =
-    same_form _ c.args.constant c.push.new.self.items (record { delta = c.args.delta; factor = pos 1 } ∷ []) c.new.result.items []
-    (kept_is c.args.constant c.args.constant c.ranges.constant refl)
-    (c.in_ok-push.ensures.items ∙ ap (λ (l : List Term). l ++ record { delta = c.args.delta; factor = pos 1 } ∷ []) c.new-terms.ensures.items)
-    c.new.ensures.items
+    same_form _ c.args.constant c.in_ok-terms.terms.items (record { delta = c.args.delta; factor = pos 1 } ∷ []) c.new.result.items []
+    (kept_is c.args.constant c.args.constant c.ranges.constant refl) c.in_ok-terms.ensures.items c.new.ensures.items

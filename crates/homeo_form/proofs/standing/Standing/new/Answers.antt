@@ -1,13 +1,6 @@
 -- No place is set.
-use Rattle.std.proofs.Common.{ap}
-use Rattle.std.specs.Map.{lookup}
-use Rattle.std.specs.Option.{unwrap_or}
-use Rattle.homeo_meaning.specs.Serial.{values_of}
-use Rattle.homeo_plan.specs.Linear.{base_forms}
-use Rattle.homeo_form.specs.Standing.{forms_of}
-use Rattle.homeo_split.proofs.SamePlaces.{is_at}
+use Rattle.homeo_form.proofs.Stands.{none_set}
 use Rattle.homeo_form.proofs.standing.Standing.new.Goals as goal
 
 pub returns : goal.returns
-unfolding forms_of
-returns c = λ i l. ap (λ es. unwrap_or (lookup (is_at l) es) (base_forms (values_of c.args.base.now) l)) c.new.ensures.empty i
+returns c = none_set _ c.new.ensures c.new-2.ensures.empty

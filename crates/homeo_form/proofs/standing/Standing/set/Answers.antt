@@ -1,11 +1,13 @@
 -- The form stands at the place.
-use Rattle.homeo_meaning.specs.Serial.{values_of}
-use Rattle.homeo_form.specs.Standing.{first_forms, forms_of}
-use Rattle.homeo_form.proofs.Stands.{stands-put}
+use Rattle.std.proofs.Common.{refl}
+use Rattle.std.proofs.lemmas.Result.{on_ok_weaker}
+use Rattle.homeo_form.proofs.Stands.{put_object, put_other}
 use Rattle.homeo_form.proofs.standing.Standing.set.Goals as goal
 
-pub returns : goal.returns
-unfolding forms_of
-returns c =
-    stands-put (first_forms c.args.self.now.are_whole (values_of c.args.self.now.base.now)) c.args.self.now.set c.insert.new.self c.args.place c.args.form
-    c.in_ok-insert.ensures.updates.0
+pub returns-in-Base : goal.returns-in-Base
+returns-in-Base c =
+    on_ok_weaker c.set.result (λ h. put_object c.args.self.now c.set.new.self c.args.place c.in-Base.object c.args.form c.in-Base.is h) c.set.ensures
+
+pub returns-in_ok-insert-in-Named : goal.returns-in_ok-insert-in-Named
+returns-in_ok-insert-in-Named c =
+    put_other c.args.self.now _ c.args.place c.args.form refl refl refl c.in-Named.is c.in_ok-insert-in-Named.ensures.updates.0

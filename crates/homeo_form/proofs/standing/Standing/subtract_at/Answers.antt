@@ -1,56 +1,47 @@
--- What the map has at the place is taken away, or what is there as a round begins.
+-- What was set at the place is taken away, or what is there as a round begins.
 use Rattle.std.proofs.Common.{negsuc, sym, ap, ◌∙◌, subst}
 use Rattle.std.proofs.lemmas.Result.{IfOk-weaker}
-use Rattle.homeo_meaning.specs.Serial.{values_of}
 use Rattle.homeo_meaning.specs.Small.{IsSmall}
 use Rattle.homeo_plan.specs.FormSizes.{Numbers}
 use Rattle.homeo_plan.specs.Limit.{form_limit}
 use Rattle.homeo_plan.specs.Linear.{add_forms, scale_form}
-use Rattle.homeo_form.specs.Standing.{first_forms, forms_of}
 use Rattle.homeo_form.proofs.FormSteps.{one_is_small}
-use Rattle.homeo_form.proofs.Stands.{stands-set, stands-unset}
 use Rattle.homeo_form.proofs.standing.Standing.subtract_at.Goals as goal
 
 pub times-requires-clause-factor : goal.times-requires-clause-factor
 times-requires-clause-factor c = one_is_small
 
 pub times-requires-clause-small : goal.times-requires-clause-small
-unfolding forms_of
 times-requires-clause-small c =
-    subst (Numbers (IsSmall form_limit)) (sym (stands-set (first_forms c.args.self.now.are_whole (values_of c.args.self.now.base.now)) c.args.self.now.set c.args.place c.in-Some.form.now c.in-Some.ensures.value))
+    subst (Numbers (IsSmall form_limit)) (sym c.in-Some.ensures)
     c.requires.place_small
 
 pub plus-requires-clause-form_small : goal.plus-requires-clause-form_small
-unfolding forms_of
 plus-requires-clause-form_small c =
     subst (Numbers (IsSmall form_limit)) (sym (c.in_ok-negated-in-Some.ensures ∙ ap (scale_form (negsuc 0))
-    (stands-set (first_forms c.args.self.now.are_whole (values_of c.args.self.now.base.now)) c.args.self.now.set c.args.place c.in-Some.form.now c.in-Some.ensures.value)))
+    c.in-Some.ensures))
     c.requires.negated_small
 
 pub subtract_first-requires-clause-place_small : goal.subtract_first-requires-clause-place_small
-unfolding forms_of
 subtract_first-requires-clause-place_small c =
-    subst (Numbers (IsSmall form_limit)) (sym (stands-unset (first_forms c.args.self.now.are_whole (values_of c.args.self.now.base.now)) c.args.self.now.set c.args.place c.in-None.ensures.value))
+    subst (Numbers (IsSmall form_limit)) (sym c.in-None.ensures)
     c.requires.place_small
 
 pub subtract_first-requires-clause-negated_small : goal.subtract_first-requires-clause-negated_small
-unfolding forms_of
 subtract_first-requires-clause-negated_small c =
-    subst (λ f. Numbers (IsSmall form_limit) (scale_form (negsuc 0) f)) (sym (stands-unset (first_forms c.args.self.now.are_whole (values_of c.args.self.now.base.now)) c.args.self.now.set c.args.place c.in-None.ensures.value))
+    subst (λ f. Numbers (IsSmall form_limit) (scale_form (negsuc 0) f)) (sym c.in-None.ensures)
     c.requires.negated_small
 
 pub returns-in_ok-negated-in-Some : goal.returns-in_ok-negated-in-Some
-unfolding forms_of
 returns-in_ok-negated-in-Some c =
     IfOk-weaker c.plus.result _ _
     (λ r h. h ∙ ap (λ f. add_forms f c.args.total) (c.in_ok-negated-in-Some.ensures ∙ ap (scale_form (negsuc 0))
-    (stands-set (first_forms c.args.self.now.are_whole (values_of c.args.self.now.base.now)) c.args.self.now.set c.args.place c.in-Some.form.now c.in-Some.ensures.value)))
+    c.in-Some.ensures))
     c.plus.ensures
 
 pub returns-in-None : goal.returns-in-None
-unfolding forms_of
 returns-in-None c =
     IfOk-weaker c.subtract_first.result _ _
     (λ r h. h ∙ ap (λ f. add_forms (scale_form (negsuc 0) f) c.args.total)
-    (stands-unset (first_forms c.args.self.now.are_whole (values_of c.args.self.now.base.now)) c.args.self.now.set c.args.place c.in-None.ensures.value))
+    c.in-None.ensures)
     c.subtract_first.ensures
