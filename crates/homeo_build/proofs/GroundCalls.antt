@@ -1,9 +1,9 @@
 -- What is made of each ground call of a workload, in their order.
-use Rattle.std.proofs.Common.{◌≡◌, ℕ, ◌<◌, ◌≤◌, List, [], ◌∷◌, map, length, take, get_or, All, sym, ap, ◌∙◌, subst, arith}
-use Rattle.std.proofs.lemmas.List.{get_or-map, length-map, take_all}
-use Rattle.homeo_syntax.specs.LowView.{plain_lcommand}
+use Rattle.std.proofs.Common.{◌≡◌, ℕ, ◌<◌, List, [], ◌∷◌, map, length, get_or, All, Some, sym, ap, ◌∙◌, subst, arith}
+use Rattle.std.specs.Prelude.{slice_get}
+use Rattle.std.proofs.lemmas.List.{get_or-map, length-map}
+use Rattle.homeo_syntax.specs.Low.{Command}
 use Rattle.homeo_syntax.specs.Source as s
-use Rattle.homeo_syntax.specs.declared.low.LCommand.{LCommand}
 use Rattle.homeo_meaning.specs.Key.{definitions as meaning_definitions}
 use Rattle.homeo_meaning.specs.Acceptance.{IsAccepted}
 use Rattle.homeo_meaning.specs.GlobalNames.{SitedCall}
@@ -18,6 +18,7 @@ use Rattle.homeo_plan.specs.Planned.{sites_of, planned_call, planned, transforme
 use Rattle.homeo_plan.specs.Template.{PlannedCall, shifted}
 use Rattle.homeo_plan.proofs.PlannedCalls.{StandsBelow, ground_sites_below}
 use Rattle.homeo_build.specs.inner.Planning.{CanCompile}
+use Rattle.homeo_build.proofs.FormsMade.{one_placed, placed_map}
 use Rattle.homeo_build.proofs.Grown.{map_map}
 
 -- what is made of a ground call, as it is planned
@@ -35,17 +36,17 @@ of_calls w h calls are =
 pub ground_below : (w : s.Workload) (calls : List GroundCall) (n : ℕ) → map plain_ground calls ≡ grounds w → n < length (grounds w) → n < length calls
 ground_below w calls n are within = omega (arith, ap length are, length-map calls plain_ground, within)
 
--- once it is made of all of them
-pub of_all :
-    {Z : Type 0} (w : s.Workload) (h : PlannedCall → Z) (made : List Z) (calls : List GroundCall) (i : ℕ) → length calls ≤ i →
-    map plain_ground calls ≡ grounds w → made ≡ map (of_call w h) (take i calls) → made ≡ map h (planned w)
-of_all w h made calls i past are so_far = so_far ∙ ap (map (of_call w h)) (take_all i calls past) ∙ of_calls w h calls are
+pub call_below : (w : s.Workload) (calls : List GroundCall) (n : ℕ) → map plain_ground calls ≡ grounds w → n < length calls → n < length (grounds w)
+call_below w calls n are within = omega (arith, ap length are, length-map calls plain_ground, within)
 
-pub commands_are :
-    (w : s.Workload) (calls : List GroundCall) (commands : List LCommand) → map plain_ground calls ≡ grounds w →
-    map plain_lcommand commands ≡ transformed w → map plain_lcommand commands ≡ map (of_call w (shifted (sites_of w))) calls
+-- the transformed command of a ground call is that at its place
+pub command_is :
+    (w : s.Workload) (calls : List GroundCall) (n : ℕ) (call : GroundCall) (c : Command) → map plain_ground calls ≡ grounds w → n < length calls →
+    call ≡ get_or calls n call → slice_get (transformed w) n ≡ Some c → c ≡ shifted (sites_of w) (planned_call w (plain_ground call))
 unfolding plan_definitions
-commands_are w calls commands are made = made ∙ sym (of_calls w (shifted (sites_of w)) calls are)
+command_is w calls n call c are within is at =
+    one_placed (transformed w) n c (of_call w (shifted (sites_of w)) call) at
+    (sym (ap (λ l. slice_get l n) (of_calls w (shifted (sites_of w)) calls are)) ∙ placed_map (of_call w (shifted (sites_of w))) calls n call within is)
 
 -- ---- each can be compiled
 all_below : (w : s.Workload) (us : List SitedCall) → Every (StandsBelow (sites_of w)) us → All (λ (g : Ground). g.site < sites_of w) (map (ground_of_sited w) us)

@@ -1,28 +1,35 @@
 -- Which deltas the ground calls can write, row by row.
-use Rattle.std.proofs.Common.{◌≡◌, ℕ, zero, suc, ◌+◌, ◌<◌, ◌≤◌, Bool, true, false, List, [], ◌∷◌, ◌++◌, map, length, take, get_or, refl, sym, ap, ap₂, ◌∙◌, subst, arith, inl, inr, length-append}
-use Rattle.std.specs.Prelude.{◌⊎◌, ◌==◌, ◌&&◌, ◌||◌, if◌then◌else◌}
+use Rattle.std.proofs.Common.{◌≡◌, ℕ, zero, suc, ◌+◌, ◌<◌, ◌≤◌, Bool, true, false, List, [], ◌∷◌, ◌++◌, map, length, take, get_or, set, refl, sym, ap, ap₂, ◌∙◌, subst, arith, inl, inr}
+use Rattle.std.specs.Prelude.{◌⊎◌, ◌==◌, ◌&&◌, ◌||◌, if◌then◌else◌, replicate}
 use Rattle.std.specs.List.{list_any}
-use Rattle.std.proofs.lemmas.Bool.{cases_lt, eqb-true, eqb-false, eq-eqb, ne_eqb}
-use Rattle.std.proofs.lemmas.List.{take_more, take_all, map_push, length-map, get_or-map}
+use Rattle.std.proofs.lemmas.Bool.{cases_eq, eq-eqb, ne_eqb}
+use Rattle.std.proofs.lemmas.Bool.Decides.{nat_tests}
+use Rattle.std.proofs.lemmas.List.{take_more, take_all, map_push, map-id, map-set, length-map, length-set, length-replicate, get_or-map, get_or-set_same, get_or-set_other}
 use Rattle.homeo_syntax.specs.LowView.{low_commands, plain_lcommand}
-use Rattle.homeo_syntax.specs.Low.{Expr, Cond, Command, Skip, Assign, Write, Print, Seq, If}
+use Rattle.homeo_syntax.specs.Low.{Expr, Cond, Command, Commands, Skip, Assign, Write, Print, Seq, If, NoCommand, MoreCommand}
 use Rattle.homeo_syntax.specs.declared.low.Temp.{Temp}
 use Rattle.homeo_syntax.specs.Source as s
 use Rattle.homeo_syntax.specs.declared.low.LCommand.{LCommand}
 use Rattle.homeo_syntax.specs.declared.low.SplitName.{SplitName}
 use Rattle.homeo_syntax.specs.declared.low.SplitName.TheVariants as split
 use Rattle.homeo_syntax.specs.Key.{definitions as syntax_definitions}
+use Rattle.homeo_meaning.specs.Key.{definitions as meaning_definitions}
+use Rattle.homeo_meaning.specs.CallForm.{ground_form}
 use Rattle.homeo_meaning.specs.Ground.{Ground, plain_ground, grounds}
+use Rattle.homeo_meaning.specs.Whole.{IsWholeName, IsWhole, AreWhole}
 use Rattle.homeo_meaning.specs.declared.call.GroundCall.{GroundCall}
 use Rattle.homeo_plan.specs.Key.{definitions as plan_definitions}
 use Rattle.homeo_plan.specs.declared.forms.Delta.{Delta}
 use Rattle.homeo_plan.specs.declared.forms.Term.{Term}
-use Rattle.homeo_plan.specs.Planned.{sites_of, planned_call, planned, transformed}
-use Rattle.homeo_plan.specs.Shares.{names_delta, writes, writes_all, is_written, takes_part}
+use Rattle.homeo_plan.specs.Planned.{sites_of, planned}
+use Rattle.homeo_plan.specs.Shares.{writes, writes_all, is_written, takes_part}
+use Rattle.homeo_plan.specs.Split.{shift_expr, shift_write, shift, shift_all}
 use Rattle.homeo_plan.specs.Template.{PlannedCall, shifted, Clause}
+use Rattle.homeo_plan.proofs.GroundForms.{ground_whole}
 use Rattle.homeo_build.specs.Key.{definitions}
-use Rattle.homeo_build.specs.Written.{delta_at, can_write, AreWritten}
-use Rattle.homeo_build.proofs.Grown.{map_map}
+use Rattle.homeo_build.specs.Written.{delta_at, AreWritten}
+use Rattle.homeo_build.specs.inner.WrittenObjects.{names_whole, writes_object, any_writes_object}
+use Rattle.homeo_build.proofs.GroundCalls.{of_call, of_calls}
 
 -- ---- truth values
 or_none : (a : Bool) → (a || false) ≡ a
@@ -45,266 +52,201 @@ pub marks_both : (new row old : List Bool) (f g : ℕ → Bool) → Marked new r
 marks_both new row old f g later first x =
     later x ∙ ap (λ b. b || g x) (first x) ∙ or_again (get_or old x false) (f x) (g x)
 
-same_number : (n x : ℕ) → (n == x) ≡ (x == n)
-same_number n x = go (n == x) refl
-  where
-    go : (b : Bool) → (n == x) ≡ b → b ≡ (x == n)
-    go true e = sym (eq-eqb x n (sym (eqb-true n x e)))
-    go false e = sym (ne_eqb x n (λ same. eqb-false n x e (sym same)))
-
 put_one : (b c : Bool) → (if b then true else c) ≡ (c || b)
 put_one true true = refl
 put_one true false = refl
 put_one false c = sym (or_none c)
 
-and_true : (a b : Bool) → b ≡ true → (a && b) ≡ a
-and_true true b e = e
-and_true false b e = refl
-
--- an object of the row's site is put
-pub put_marks :
-    (new old : List Bool) (object at site : ℕ) → ((x : ℕ) → get_or new x false ≡ (if object == x then true else get_or old x false)) → at ≡ site →
-    Marked new old (λ x. names_delta (delta_at site x) (split.Delta object at))
-unfolding plan_definitions
-put_marks new old object at site put same x =
+-- a whole object is put
+pub name_marks :
+    (new old : List Bool) (object : ℕ) (name : SplitName) → name ≡ split.Whole object →
+    ((x : ℕ) → get_or new x false ≡ (if object == x then true else get_or old x false)) → Marked new old (λ x. names_whole x name)
+unfolding definitions
+name_marks new old object name is put x =
     put x ∙ put_one (object == x) (get_or old x false)
-    ∙ ap (λ b. get_or old x false || b)
-    (same_number object x ∙ sym (and_true (x == object) (site == at) (eq-eqb site at (sym same))))
+    ∙ ap (λ b. get_or old x false || b) (same_number object x ∙ sym (ap (names_whole x) is))
+  where
+    same_number : (n x : ℕ) → (n == x) ≡ (x == n)
+    same_number n x = grind (arith, nat_tests)
 
-and_false : (a b : Bool) → b ≡ false → (a && b) ≡ false
-and_false true b e = e
-and_false false b e = refl
-
-pub marks_elsewhere : (row : List Bool) (object at site : ℕ) → (at == site) ≡ false → Marked row row (λ x. names_delta (delta_at site x) (split.Delta object at))
-unfolding plan_definitions
-marks_elsewhere row object at site differ =
-    marks_none row (λ x. names_delta (delta_at site x) (split.Delta object at)) (λ x. and_false (x == object) (site == at) (same_number site at ∙ differ))
-
-pub delta_marks :
-    (new old : List Bool) (object at site : ℕ) (name : SplitName) → name ≡ split.Delta object at →
-    ((x : ℕ) → get_or new x false ≡ (if object == x then true else get_or old x false)) → at ≡ site →
-    Marked new old (λ x. names_delta (delta_at site x) name)
-delta_marks new old object at site name is put same x =
-    put_marks new old object at site put same x ∙ ap (λ n. get_or old x false || names_delta (delta_at site x) n) (sym is)
-
-pub marks_away :
-    (row : List Bool) (object at site : ℕ) (name : SplitName) → name ≡ split.Delta object at → (at ≡ site → ⊥) →
-    Marked row row (λ x. names_delta (delta_at site x) name)
-marks_away row object at site name is differ x =
-    marks_elsewhere row object at site (ne_eqb at site differ) x ∙ ap (λ n. get_or row x false || names_delta (delta_at site x) n) (sym is)
-
--- no name of an object that isn't split is a delta's
-pub marks_undivided :
-    (row : List Bool) (site : ℕ) (name : SplitName) → ((x : ℕ) × (name ≡ split.Whole x)) ⊎ ((x : ℕ) × (name ≡ split.Base x)) →
-    Marked row row (λ x. names_delta (delta_at site x) name)
-unfolding plan_definitions
-marks_undivided row site name (inl w) = marks_none row (λ x. names_delta (delta_at site x) name) (λ x. ap (names_delta (delta_at site x)) w.1)
-marks_undivided row site name (inr w) = marks_none row (λ x. names_delta (delta_at site x) name) (λ x. ap (names_delta (delta_at site x)) w.1)
+-- no other name is that of a whole object
+pub marks_divided :
+    (row : List Bool) (name : SplitName) → ((x : ℕ) × (name ≡ split.Base x)) ⊎ ((x : ℕ) × ((j : ℕ) × (name ≡ split.Delta x j))) →
+    Marked row row (λ x. names_whole x name)
+unfolding definitions
+marks_divided row name (inl b) = marks_none row (λ x. names_whole x name) (λ x. ap (names_whole x) b.1)
+marks_divided row name (inr d) = marks_none row (λ x. names_whole x name) (λ x. ap (names_whole x) d.1.1)
 
 -- ---- commands one after another
-low_push : (cs : List Command) (c : Command) (d : Delta) → writes_all d (low_commands (cs ++ c ∷ [])) ≡ (writes_all d (low_commands cs) || writes d c)
-unfolding plan_definitions syntax_definitions
-low_push [] c d = or_none (writes d c)
-low_push (x ∷ cs) c d = ap (λ b. writes d x || b) (low_push cs c d) ∙ sym (or_again (writes d x) (writes_all d (low_commands cs)) (writes d c))
+low_push : (cs : List Command) (c : Command) (x : ℕ) → any_writes_object x (low_commands (cs ++ c ∷ [])) ≡ (any_writes_object x (low_commands cs) || writes_object x c)
+unfolding definitions syntax_definitions
+low_push [] c x = or_none (writes_object x c)
+low_push (d ∷ cs) c x = ap (λ b. writes_object x d || b) (low_push cs c x) ∙ sym (or_again (writes_object x d) (any_writes_object x (low_commands cs)) (writes_object x c))
 
 pub marks_more :
-    (cs : List LCommand) (i site : ℕ) (c : LCommand) (new row old : List Bool) → i < length cs → c ≡ get_or cs i c →
-    Marked new row (λ x. writes (delta_at site x) (plain_lcommand c)) →
-    Marked row old (λ x. writes_all (delta_at site x) (low_commands (map plain_lcommand (take i cs)))) →
-    Marked new old (λ x. writes_all (delta_at site x) (low_commands (map plain_lcommand (take (i + 1) cs))))
-marks_more cs i site c new row old within is later first x =
+    (cs : List LCommand) (i : ℕ) (c : LCommand) (new row old : List Bool) → i < length cs → c ≡ get_or cs i c →
+    Marked new row (λ x. writes_object x (plain_lcommand c)) →
+    Marked row old (λ x. any_writes_object x (low_commands (map plain_lcommand (take i cs)))) →
+    Marked new old (λ x. any_writes_object x (low_commands (map plain_lcommand (take (i + 1) cs))))
+marks_more cs i c new row old within is later first x =
     let more : map plain_lcommand (take i cs) ++ plain_lcommand c ∷ [] ≡ map plain_lcommand (take (i + 1) cs) =
     sym (map_push plain_lcommand (take i cs) c) ∙ ap (λ d. map plain_lcommand (take i cs ++ d ∷ [])) is ∙ ap (map plain_lcommand) (sym (take_more cs i c within)) in
-    marks_both new row old (λ x. writes_all (delta_at site x) (low_commands (map plain_lcommand (take i cs)))) (λ x. writes (delta_at site x) (plain_lcommand c)) later first x
+    marks_both new row old (λ x. any_writes_object x (low_commands (map plain_lcommand (take i cs)))) (λ x. writes_object x (plain_lcommand c)) later first x
     ∙ ap (λ b. get_or old x false || b)
-    (sym (low_push (map plain_lcommand (take i cs)) (plain_lcommand c) (delta_at site x)) ∙ ap (λ l. writes_all (delta_at site x) (low_commands l)) more)
+    (sym (low_push (map plain_lcommand (take i cs)) (plain_lcommand c) x) ∙ ap (λ l. any_writes_object x (low_commands l)) more)
 
 -- of no commands
-pub marks_begin : (row : List Bool) (site : ℕ) → Marked row row (λ x. writes_all (delta_at site x) (low_commands []))
-unfolding plan_definitions syntax_definitions
-marks_begin row site = marks_none row (λ x. false) (λ x. refl)
+pub marks_begin : (row : List Bool) → Marked row row (λ x. any_writes_object x (low_commands []))
+unfolding definitions syntax_definitions
+marks_begin row = marks_none row (λ x. false) (λ x. refl)
 
 -- a command is what its view is
 pub marks_of :
-    (new old : List Bool) (site : ℕ) (c : LCommand) (l : Command) → plain_lcommand c ≡ l → Marked new old (λ x. writes (delta_at site x) l) →
-    Marked new old (λ x. writes (delta_at site x) (plain_lcommand c))
-marks_of new old site c l is marked x = marked x ∙ ap (λ d. get_or old x false || writes (delta_at site x) d) (sym is)
+    (new old : List Bool) (c : LCommand) (l : Command) → plain_lcommand c ≡ l → Marked new old (λ x. writes_object x l) →
+    Marked new old (λ x. writes_object x (plain_lcommand c))
+marks_of new old c l is marked x = marked x ∙ ap (λ d. get_or old x false || writes_object x d) (sym is)
 
-pub marks_skip : (row : List Bool) (site : ℕ) → Marked row row (λ x. writes (delta_at site x) Skip)
-unfolding plan_definitions
-marks_skip row site = marks_none row (λ x. false) (λ x. refl)
+pub marks_skip : (row : List Bool) → Marked row row (λ x. writes_object x Skip)
+unfolding definitions
+marks_skip row = marks_none row (λ x. false) (λ x. refl)
 
-pub marks_assign : (row : List Bool) (site : ℕ) (t : Temp) (e : Expr) → Marked row row (λ x. writes (delta_at site x) (Assign t e))
-unfolding plan_definitions
-marks_assign row site t e = marks_none row (λ x. false) (λ x. refl)
+pub marks_assign : (row : List Bool) (t : Temp) (e : Expr) → Marked row row (λ x. writes_object x (Assign t e))
+unfolding definitions
+marks_assign row t e = marks_none row (λ x. false) (λ x. refl)
 
-pub marks_print : (row : List Bool) (site : ℕ) (e : Expr) → Marked row row (λ x. writes (delta_at site x) (Print e))
-unfolding plan_definitions
-marks_print row site e = marks_none row (λ x. false) (λ x. refl)
+pub marks_print : (row : List Bool) (e : Expr) → Marked row row (λ x. writes_object x (Print e))
+unfolding definitions
+marks_print row e = marks_none row (λ x. false) (λ x. refl)
 
-pub marks_write : (new old : List Bool) (site : ℕ) (name : SplitName) (e : Expr) → Marked new old (λ x. names_delta (delta_at site x) name) → Marked new old (λ x. writes (delta_at site x) (Write name e))
-unfolding plan_definitions
-marks_write new old site name e marked = marked
+pub marks_write : (new old : List Bool) (name : SplitName) (e : Expr) → Marked new old (λ x. names_whole x name) → Marked new old (λ x. writes_object x (Write name e))
+unfolding definitions
+marks_write new old name e marked = marked
 
 pub marks_seq :
-    (new old : List Bool) (site : ℕ) (cs lent : List LCommand) → lent ≡ cs →
-    Marked new old (λ x. writes_all (delta_at site x) (low_commands (map plain_lcommand lent))) →
-    Marked new old (λ x. writes (delta_at site x) (Seq (low_commands (map plain_lcommand cs))))
-unfolding plan_definitions
-marks_seq new old site cs lent same marked x = marked x ∙ ap (λ l. get_or old x false || writes_all (delta_at site x) (low_commands (map plain_lcommand l))) same
+    (new old : List Bool) (cs lent : List LCommand) → lent ≡ cs → Marked new old (λ x. any_writes_object x (low_commands (map plain_lcommand lent))) →
+    Marked new old (λ x. writes_object x (Seq (low_commands (map plain_lcommand cs))))
+unfolding definitions
+marks_seq new old cs lent same marked x = marked x ∙ ap (λ l. get_or old x false || any_writes_object x (low_commands (map plain_lcommand l))) same
 
 pub marks_if :
-    (new row old : List Bool) (site : ℕ) (b : Cond) (one other : LCommand) (lent_one lent_other : LCommand) → lent_one ≡ one → lent_other ≡ other →
-    Marked new row (λ x. writes (delta_at site x) (plain_lcommand lent_other)) → Marked row old (λ x. writes (delta_at site x) (plain_lcommand lent_one)) →
-    Marked new old (λ x. writes (delta_at site x) (If b (plain_lcommand one) (plain_lcommand other)))
-unfolding plan_definitions
-marks_if new row old site b one other lent_one lent_other y n later first x =
-    marks_both new row old (λ x. writes (delta_at site x) (plain_lcommand lent_one)) (λ x. writes (delta_at site x) (plain_lcommand lent_other)) later first x
-    ∙ ap₂ (λ c d. get_or old x false || (writes (delta_at site x) (plain_lcommand c) || writes (delta_at site x) (plain_lcommand d))) y n
+    (new row old : List Bool) (b : Cond) (one other : LCommand) (lent_one lent_other : LCommand) → lent_one ≡ one → lent_other ≡ other →
+    Marked new row (λ x. writes_object x (plain_lcommand lent_other)) → Marked row old (λ x. writes_object x (plain_lcommand lent_one)) →
+    Marked new old (λ x. writes_object x (If b (plain_lcommand one) (plain_lcommand other)))
+unfolding definitions
+marks_if new row old b one other lent_one lent_other y n later first x =
+    marks_both new row old (λ x. writes_object x (plain_lcommand lent_one)) (λ x. writes_object x (plain_lcommand lent_other)) later first x
+    ∙ ap₂ (λ c d. get_or old x false || (writes_object x (plain_lcommand c) || writes_object x (plain_lcommand d))) y n
+
+-- ---- the delta transform at a site writes the deltas there of the objects that the command writes
+and_here : (a : Bool) (i : ℕ) → (a && (i == i)) ≡ a
+and_here a i = ap (λ b. a && b) (eq-eqb i i refl) ∙ and_all a
+  where
+    and_all : (a : Bool) → (a && true) ≡ a
+    and_all true = refl
+    and_all false = refl
+
+write_shifted :
+    (k i x : ℕ) (name : SplitName) (e : Expr) → IsWholeName name → writes (delta_at i x) (shift_write k i name e) ≡ names_whole x name
+unfolding definitions plan_definitions meaning_definitions
+write_shifted k i x (split.Whole y) e h = and_here (x == y) i
+write_shifted k i x (split.Base y) e h = absurd h
+write_shifted k i x (split.Delta y j) e h = absurd h
+
+mutual
+  unfolding definitions plan_definitions meaning_definitions
+
+  shifted_writes : (k i x : ℕ) (c : Command) → IsWhole c → writes (delta_at i x) (shift k i c) ≡ writes_object x c
+  shifted_writes k i x Skip h = refl
+  shifted_writes k i x (Assign t e) h = refl
+  shifted_writes k i x (Write y e) h = write_shifted k i x y (shift_expr k e) h.0
+  shifted_writes k i x (Print e) h = refl
+  shifted_writes k i x (Seq cs) h = shifted_writes_all k i x cs h
+  shifted_writes k i x (If b c d) h = ap₂ (λ p q. p || q) (shifted_writes k i x c h.1.0) (shifted_writes k i x d h.1.1)
+
+  shifted_writes_all : (k i x : ℕ) (cs : Commands) → AreWhole cs → writes_all (delta_at i x) (shift_all k i cs) ≡ any_writes_object x cs
+  shifted_writes_all k i x NoCommand h = refl
+  shifted_writes_all k i x (MoreCommand c cs) h = ap₂ (λ p q. p || q) (shifted_writes k i x c h.0) (shifted_writes_all k i x cs h.1)
 
 -- ---- calls one after another
-can_push :
-    (is : List ℕ) (cs : List Command) (i : ℕ) (c : Command) (d : Delta) → length is ≡ length cs →
-    can_write (is ++ i ∷ []) (cs ++ c ∷ []) d ≡ (can_write is cs d || ((i == d.site) && writes d c))
-unfolding definitions
-can_push [] [] i c d e = or_none ((i == d.site) && writes d c)
-can_push [] (x ∷ cs) i c d e = absurd (omega (arith, e))
-can_push (j ∷ is) [] i c d e = absurd (omega (arith, e))
-can_push (j ∷ is) (x ∷ cs) i c d e =
-    ap (λ b. ((j == d.site) && writes d x) || b) (can_push is cs i c d (omega (arith, e)))
-    ∙ sym (or_again ((j == d.site) && writes d x) (can_write is cs d) ((i == d.site) && writes d c))
+-- the rows tell what these calls can write at each site
+pub record Tell (w : s.Workload) (gs : List PlannedCall) (rows : List (List Bool)) : Type 0 where
+  pub count : length rows ≡ sites_of w
+  pub tell : (i x : ℕ) → i < sites_of w → get_or (get_or rows i []) x false ≡ is_written (sites_of w) gs (delta_at i x)
 
-take_length : {X : Type 0} (xs : List X) (i : ℕ) → i ≤ length xs → length (take i xs) ≡ i
-take_length [] zero h = refl
-take_length [] (suc i) h = absurd (omega (arith, h))
-take_length (x ∷ xs) zero h = refl
-take_length (x ∷ xs) (suc i) h = ap suc (take_length xs i (omega (arith, h)))
+-- the first n of the ground calls, as they are planned
+abbrev pub first_calls : s.Workload → List GroundCall → ℕ → List PlannedCall
+first_calls w calls n = map (of_call w (λ g. g)) (take n calls)
 
-abbrev pub site_in : GroundCall → ℕ
-site_in c = c.site
-
--- what the first i of the calls can write
-abbrev pub written_by : List GroundCall → List LCommand → ℕ → ℕ → ℕ → Bool
-written_by calls commands i site x = can_write (map site_in (take i calls)) (map plain_lcommand (take i commands)) (delta_at site x)
-
-module _ (calls : List GroundCall) (commands : List LCommand) (i site : ℕ) (call : GroundCall) (within : i < length calls) (is : call ≡ get_or calls i call) (count : length commands ≡ length calls) where
-  one_more :
-      (command : LCommand) → command ≡ get_or commands i command → (x : ℕ) →
-      written_by calls commands (i + 1) site x ≡ (written_by calls commands i site x || ((call.site == site) && writes (delta_at site x) (plain_lcommand command)))
-  one_more command command_is x =
-      let below : i < length commands = omega (arith, within, count) in
-      let sites : map site_in (take i calls) ++ call.site ∷ [] ≡ map site_in (take (i + 1) calls) =
-      sym (map_push site_in (take i calls) call) ∙ ap (λ d. map site_in (take i calls ++ d ∷ [])) is ∙ ap (map site_in) (sym (take_more calls i call within)) in
-      let more : map plain_lcommand (take i commands) ++ plain_lcommand command ∷ [] ≡ map plain_lcommand (take (i + 1) commands) =
-      sym (map_push plain_lcommand (take i commands) command) ∙ ap (λ d. map plain_lcommand (take i commands ++ d ∷ [])) command_is
-      ∙ ap (map plain_lcommand) (sym (take_more commands i command below)) in
-      let one : length (map site_in (take i calls)) ≡ i = length-map (take i calls) site_in ∙ take_length calls i (omega (arith, within)) in
-      let other : length (map plain_lcommand (take i commands)) ≡ i = length-map (take i commands) plain_lcommand ∙ take_length commands i (omega (arith, below)) in
-      ap₂ (λ is cs. can_write is cs (delta_at site x)) (sym sites) (sym more)
-      ∙ can_push (map site_in (take i calls)) (map plain_lcommand (take i commands)) call.site (plain_lcommand command) (delta_at site x) (one ∙ sym other)
-
-  pub call_marks :
-      (command : LCommand) (new row : List Bool) → command ≡ get_or commands i command → (call.site == site) ≡ true →
-      ((x : ℕ) → get_or row x false ≡ written_by calls commands i site x) → Marked new row (λ x. writes (delta_at site x) (plain_lcommand command)) →
-      (x : ℕ) → get_or new x false ≡ written_by calls commands (i + 1) site x
-  call_marks command new row command_is here so_far marked x =
-      marked x ∙ ap (λ b. b || writes (delta_at site x) (plain_lcommand command)) (so_far x)
-      ∙ sym (one_more command command_is x ∙ ap (λ b. written_by calls commands i site x || (b && writes (delta_at site x) (plain_lcommand command))) here)
-
-  pub call_elsewhere :
-      (row : List Bool) (none : LCommand) → (call.site == site) ≡ false → ((x : ℕ) → get_or row x false ≡ written_by calls commands i site x) →
-      (x : ℕ) → get_or row x false ≡ written_by calls commands (i + 1) site x
-  call_elsewhere row none away so_far x =
-      let command = get_or commands i none in
-      so_far x ∙ sym (one_more command (same commands i none (omega (arith, within, count))) x ∙ ap (λ b. written_by calls commands i site x || (b && writes (delta_at site x) (plain_lcommand command))) away ∙ or_none (written_by calls commands i site x))
-    where
-      same : {X : Type 0} (xs : List X) (i : ℕ) (d : X) → i < length xs → get_or xs i d ≡ get_or xs i (get_or xs i d)
-      same [] i d h = absurd (omega (arith, h))
-      same (x ∷ xs) zero d h = refl
-      same (x ∷ xs) (suc i) d h = same xs i d (omega (arith, h))
-
-can_nothing : (d : Delta) → can_write [] [] d ≡ false
-unfolding definitions
-can_nothing d = refl
-
-pub none_written : (calls : List GroundCall) (commands : List LCommand) (site : ℕ) (row : List Bool) → row ≡ [] → (x : ℕ) → get_or row x false ≡ written_by calls commands 0 site x
-none_written calls commands site row none x = ap (λ r. get_or r x false) none ∙ sym (can_nothing (delta_at site x))
-
-pub calls_done :
-    (calls : List GroundCall) (commands : List LCommand) (i site : ℕ) (row : List Bool) → length commands ≡ length calls → length calls ≤ i →
-    ((x : ℕ) → get_or row x false ≡ written_by calls commands i site x) →
-    (x : ℕ) → get_or row x false ≡ can_write (map site_in calls) (map plain_lcommand commands) (delta_at site x)
-calls_done calls commands i site row count past so_far x =
-    so_far x ∙ ap₂ (λ cs ds. can_write (map site_in cs) (map plain_lcommand ds) (delta_at site x)) (take_all i calls past) (take_all i commands (omega (arith, count, past)))
-
--- ---- all ground calls
-can_is_written : (k : ℕ) (gs : List PlannedCall) (d : Delta) → can_write (map (λ g. g.site) gs) (map (shifted k) gs) d ≡ is_written k gs d
-unfolding definitions plan_definitions
-can_is_written k [] d = refl
-can_is_written k (g ∷ gs) d = ap (λ b. ((g.site == d.site) && writes d (shifted k g)) || b) (can_is_written k gs d)
-
-pub all_written :
-    (w : s.Workload) (calls : List GroundCall) (commands : List LCommand) (d : Delta) → map plain_ground calls ≡ grounds w →
-    map plain_lcommand commands ≡ transformed w → can_write (map site_in calls) (map plain_lcommand commands) d ≡ is_written (sites_of w) (planned w) d
+pub tell_begin : (w : s.Workload) (calls : List GroundCall) (rows : List (List Bool)) (k : ℕ) → k ≡ sites_of w → rows ≡ replicate k [] → Tell w (first_calls w calls 0) rows
 unfolding plan_definitions
-all_written w calls commands d are made =
-    let sites : map site_in calls ≡ map (λ (g : PlannedCall). g.site) (planned w) =
-    sym (map_map plain_ground (λ (g : Ground). g.site) calls) ∙ ap (map (λ (g : Ground). g.site)) are ∙ sym (map_map (planned_call w) (λ (g : PlannedCall). g.site) (grounds w)) in
-    ap₂ (λ is cs. can_write is cs d) sites made ∙ can_is_written (sites_of w) (planned w) d
-
-pub same_count :
-    (w : s.Workload) (calls : List GroundCall) (commands : List LCommand) → map plain_ground calls ≡ grounds w → map plain_lcommand commands ≡ transformed w →
-    length commands ≡ length calls
-unfolding plan_definitions
-same_count w calls commands are made =
-    omega (arith, length-map commands plain_lcommand, ap length made, length-map (planned w) (shifted (sites_of w)), length-map (grounds w) (planned_call w), ap length are, length-map calls plain_ground)
-
--- ---- rows one after another
--- the first n rows tell what can be written
-pub record Tell (w : s.Workload) (rows : List (List Bool)) (n : ℕ) : Type 0 where
-  pub count : length rows ≡ n
-  pub tell : (i x : ℕ) → i < n → get_or (get_or rows i []) x false ≡ is_written (sites_of w) (planned w) (delta_at i x)
-
-pub tell_begin : (w : s.Workload) (rows : List (List Bool)) → rows ≡ [] → Tell w rows 0
-tell_begin w rows none = record { count = ap length none; tell = λ i x h. absurd (omega (arith, h)) }
-
-push_before : {X : Type 0} (xs : List X) (y d : X) (i : ℕ) → i < length xs → get_or (xs ++ y ∷ []) i d ≡ get_or xs i d
-push_before [] y d i h = absurd (omega (arith, h))
-push_before (x ∷ xs) y d zero h = refl
-push_before (x ∷ xs) y d (suc i) h = push_before xs y d i (omega (arith, h))
-
-push_last : {X : Type 0} (xs : List X) (y d : X) (i : ℕ) → i ≡ length xs → get_or (xs ++ y ∷ []) i d ≡ y
-push_last [] y d zero e = refl
-push_last [] y d (suc i) e = absurd (omega (arith, e))
-push_last (x ∷ xs) y d zero e = absurd (omega (arith, e))
-push_last (x ∷ xs) y d (suc i) e = push_last xs y d i (omega (arith, e))
-
-pushed_count : {X : Type 0} (xs : List X) (y : X) → length (xs ++ y ∷ []) ≡ length xs + 1
-pushed_count xs y = length-append xs (y ∷ [])
-
-pub tell_more :
-    (w : s.Workload) (rows after : List (List Bool)) (row : List Bool) (n : ℕ) → Tell w rows n → after ≡ rows ++ row ∷ [] →
-    ((x : ℕ) → get_or row x false ≡ is_written (sites_of w) (planned w) (delta_at n x)) → Tell w after (n + 1)
-tell_more w rows after row n so_far pushed told = subst (λ (l : List (List Bool)). Tell w l (n + 1)) (sym pushed) (record {
-  count = pushed_count rows row ∙ ap (λ m. m + 1) so_far.count;
-  tell = λ i x h. at i x h (cases_lt i n);
-})
-  where
-    at : (i x : ℕ) → i < n + 1 → (i < n) ⊎ (n ≤ i) → get_or (get_or (rows ++ row ∷ []) i []) x false ≡ is_written (sites_of w) (planned w) (delta_at i x)
-    at i x h (inl l) =
-        let count = so_far.count in
-        ap (λ r. get_or r x false) (push_before rows row [] i (omega (arith, l, count))) ∙ so_far.tell i x l
-    at i x h (inr g) =
-        let count = so_far.count in
-        let last : i ≡ n = omega (arith, h, g) in
-        ap (λ r. get_or r x false) (push_last rows row [] i (omega (arith, last, count))) ∙ told x
-        ∙ ap (λ j. is_written (sites_of w) (planned w) (delta_at j x)) (sym last)
-
-pub tell_all : (w : s.Workload) (rows : List (List Bool)) (n : ℕ) → n ≡ sites_of w → Tell w rows n → AreWritten w rows
-tell_all w rows n all told = record {
-  count = told.count ∙ all;
-  tell = λ i x h. told.tell i x (subst (λ m. i < m) (sym all) h);
+tell_begin w calls rows k count are = record {
+  count = ap length are ∙ length-replicate k [] ∙ count;
+  tell = λ i x h. ap (λ l. get_or (get_or l i []) x false) are ∙ ap (λ r. get_or r x false) (none k i);
 }
+  where
+    none : (k i : ℕ) → get_or (replicate k []) i [] ≡ []
+    none zero i = refl
+    none (suc k) zero = refl
+    none (suc k) (suc i) = none k i
+
+written_push : (k : ℕ) (gs : List PlannedCall) (g : PlannedCall) (d : Delta) → is_written k (gs ++ g ∷ []) d ≡ (is_written k gs d || ((g.site == d.site) && writes d (shifted k g)))
+unfolding plan_definitions
+written_push k [] g d = or_none ((g.site == d.site) && writes d (shifted k g))
+written_push k (f ∷ gs) g d =
+    ap (λ b. ((f.site == d.site) && writes d (shifted k f)) || b) (written_push k gs g d)
+    ∙ sym (or_again ((f.site == d.site) && writes d (shifted k f)) (is_written k gs d) ((g.site == d.site) && writes d (shifted k g)))
+
+module _ (w : s.Workload) (calls : List GroundCall) (n : ℕ) (call : GroundCall) (within : n < length calls) (is : call ≡ get_or calls n call) where
+  one_more :
+      (k : ℕ) (d : Delta) → is_written k (first_calls w calls (n + 1)) d ≡
+      (is_written k (first_calls w calls n) d || ((call.site == d.site) && writes d (shift k call.site (ground_form w (plain_ground call)))))
+  unfolding plan_definitions
+  one_more k d =
+      let more : first_calls w calls (n + 1) ≡ first_calls w calls n ++ of_call w (λ g. g) call ∷ [] =
+      ap (map (of_call w (λ g. g))) (take_more calls n call within ∙ ap (λ c. take n calls ++ c ∷ []) (sym is)) ∙ map_push (of_call w (λ g. g)) (take n calls) call in
+      ap (λ gs. is_written k gs d) more ∙ written_push k (first_calls w calls n) (of_call w (λ g. g) call) d
+
+  -- the row of the call's site is marked with what its form writes
+  pub tell_more :
+      {L : Type 0} (f : L → List Bool) (rows : List L) (row new : L) (form : Command) → call.site < sites_of w → form ≡ ground_form w (plain_ground call) →
+      row ≡ get_or rows call.site row → Marked (f new) (f row) (λ x. writes_object x form) → Tell w (first_calls w calls n) (map f rows) →
+      Tell w (first_calls w calls (n + 1)) (map f (set rows call.site new))
+  tell_more f rows row new form there form_is row_is marked told =
+      record {
+        count = ap length (map-set f rows call.site new) ∙ length-set (map f rows) call.site (f new) ∙ told.count;
+        tell = λ i x h. ap (λ l. get_or (get_or l i []) x false) (map-set f rows call.site new) ∙ at i x h (cases_eq i call.site);
+      }
+    where
+      at : (i x : ℕ) → i < sites_of w → (i ≡ call.site) ⊎ (i ≡ call.site → ⊥) → get_or (get_or (set (map f rows) call.site (f new)) i []) x false ≡ is_written (sites_of w) (first_calls w calls (n + 1)) (delta_at i x)
+      at i x h (inl same) =
+          let count = told.count in
+          let below : call.site < length rows = omega (arith, there, count, length-map rows f) in
+          let old : get_or (map f rows) call.site [] ≡ f row = get_or-map f rows call.site row [] below ∙ ap f (sym row_is) in
+          let k = sites_of w in
+          let whole : IsWhole form = subst IsWhole (sym form_is) (ground_whole w (plain_ground call)) in
+          let here : call.site < length (map f rows) = omega (arith, there, count) in
+          let so_far : get_or (f row) x false ≡ is_written k (first_calls w calls n) (delta_at call.site x) = ap (λ r. get_or r x false) (sym old) ∙ told.tell call.site x there in
+          let now : writes_object x form ≡ ((call.site == call.site) && writes (delta_at call.site x) (shift k call.site (ground_form w (plain_ground call)))) =
+          sym (shifted_writes k call.site x form whole) ∙ ap (λ c. writes (delta_at call.site x) (shift k call.site c)) form_is
+          ∙ ap (λ b. b && writes (delta_at call.site x) (shift k call.site (ground_form w (plain_ground call)))) (sym (eq-eqb call.site call.site refl)) in
+          ap (λ j. get_or (get_or (set (map f rows) call.site (f new)) j []) x false) same
+          ∙ ap (λ r. get_or r x false) (get_or-set_same (map f rows) call.site (f new) [] here)
+          ∙ marked x ∙ ap₂ (λ b c. b || c) so_far now ∙ sym (one_more k (delta_at call.site x))
+          ∙ ap (λ j. is_written k (first_calls w calls (n + 1)) (delta_at j x)) (sym same)
+      at i x h (inr differ) =
+          let k = sites_of w in
+          ap (λ r. get_or r x false) (get_or-set_other (map f rows) call.site i (f new) [] differ) ∙ told.tell i x h
+          ∙ sym (one_more k (delta_at i x)
+          ∙ ap (λ b. is_written k (first_calls w calls n) (delta_at i x) || (b && writes (delta_at i x) (shift k call.site (ground_form w (plain_ground call))))) (ne_eqb call.site i (λ e. differ (sym e)))
+          ∙ or_none (is_written k (first_calls w calls n) (delta_at i x)))
+
+pub tell_all : (w : s.Workload) (calls : List GroundCall) (n : ℕ) (rows : List (List Bool)) → length calls ≤ n → map plain_ground calls ≡ grounds w → Tell w (first_calls w calls n) rows → AreWritten w rows
+tell_all w calls n rows past are told =
+    let all : first_calls w calls n ≡ planned w = ap (map (of_call w (λ g. g))) (take_all n calls past) ∙ of_calls w (λ g. g) calls are ∙ map-id (planned w) in
+    record {
+      count = told.count;
+      tell = λ i x h. told.tell i x h ∙ ap (λ gs. is_written (sites_of w) gs (delta_at i x)) all;
+    }
 
 -- ---- terms one after another
 both_none : (c d e : Bool) → (c || d) ≡ false → (d ≡ false → e ≡ false) → (c || e) ≡ false

@@ -1,21 +1,12 @@
 -- Which deltas commands of sites can write, as the code finds it.
-use Rattle.std.specs.Prelude.{◌≡◌, ◌<◌, ℕ, Bool, false, ◌==◌, ◌&&◌, ◌||◌, List, [], ◌∷◌, length, slice_index_or}
-use Rattle.homeo_syntax.specs.Low.{Command}
+use Rattle.std.specs.Prelude.{◌≡◌, ◌<◌, ℕ, Bool, false, List, [], length, slice_index_or}
 use Rattle.homeo_syntax.specs.Source as s
 use Rattle.homeo_plan.specs.declared.forms.Delta.{Delta}
 use Rattle.homeo_plan.specs.Planned.{sites_of, planned}
-use Rattle.homeo_plan.specs.Shares.{writes, is_written}
-use Rattle.homeo_build.specs.Key.{definitions}
+use Rattle.homeo_plan.specs.Shares.{is_written}
 
 abbrev pub delta_at : ℕ → ℕ → Delta
 delta_at i x = record { object = x; site = i }
-
--- of commands at these sites one at the delta's site can write it
-abbrev pub can_write : List ℕ → List Command → Delta → Bool
-unfolding definitions
-can_write [] cs d = false
-can_write (i ∷ is) [] d = false
-can_write (i ∷ is) (c ∷ cs) d = ((i == d.site) && writes d c) || can_write is cs d
 
 -- for each site a row with an entry for each object: whether a ground call of the workload can write its delta there
 pub record AreWritten (w : s.Workload) (rows : List (List Bool)) : Type 0 where

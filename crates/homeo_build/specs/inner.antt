@@ -5,4 +5,4 @@ pub mod Planning
 pub mod Rebased
 pub mod SharedTemplate
 pub mod Sharing
-pub mod Transformed
+pub mod WrittenObjects

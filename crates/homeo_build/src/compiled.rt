@@ -1,6 +1,6 @@
-//! A workload with its ground calls and their commands.
+//! A workload with its ground calls and their L forms.
 
-ghost use Rattle.std.specs.Prelude.{◌≡◌, ◌<◌, length, map, slice_get};
+ghost use Rattle.std.specs.Prelude.{◌≡◌, ◌<◌, length, map, slice_get, Some, IfOk};
 ghost use Rattle.homeo_syntax.specs.LowView.{plain_lcommand};
 ghost use Rattle.homeo_syntax.specs.SourceView.{plain_workload};
 ghost use Rattle.homeo_meaning.specs.Calls.{CallExists};
@@ -15,25 +15,27 @@ ghost use Rattle.homeo_build.specs.Forms.{AreForms};
 ghost use Rattle.homeo_build.specs.Written.{AreWritten};
 
 use crate::forms::Forms;
+use crate::sites::site_count;
 use homeo_context::Declarations;
+use homeo_delta::transform;
 use homeo_ground::Grounding;
 use homeo_meaning::padded::item_or;
 use homeo_meaning::{Accepted, CallId, GroundCall};
 use homeo_plan::Clause;
-use homeo_syntax::{LCommand, List};
+use homeo_syntax::{LCommand, Memory};
+use std::alloc::Global;
 use std::marker::Model;
 
 /// An accepted workload with what is fixed for all its rounds: the places of its names; its distinct ground calls, each where it
 /// is first called, in the order of the text; which of them each call is; their L forms, once for each transaction with
-/// arguments, and the objects that these name; the delta transform of that of each, at the call's site; and at each site the
-/// objects whose deltas some of them can write.
+/// arguments, and the objects that these name; and at each site the objects that some of them can write there. The delta
+/// transforms of the forms are not kept, since each has terms for all sites at each read: `command` makes the one that is asked.
 #[derive(Drop)]
 pub struct Compiled {
     workload: Accepted,
     declared: Declarations,
     calls: Grounding,
     forms: Forms,
-    commands: List<LCommand>,
     written: Vec<Vec<bool>>,
 }
 
@@ -45,7 +47,6 @@ impl Model for Compiled {
     ghost use Rattle.homeo_syntax.specs.SourceView.{plain_workload};
     ghost use Rattle.homeo_meaning.specs.Declarations.{declarations};
     ghost use Rattle.homeo_ground.specs.Grounding.{grounding};
-    ghost use Rattle.homeo_plan.specs.Planned.{transformed};
     ghost use Rattle.homeo_follow.specs.Named.{named};
     ghost use Rattle.homeo_build.specs.Forms.{AreForms};
     ghost use Rattle.homeo_build.specs.Written.{AreWritten};
@@ -57,7 +58,6 @@ impl Model for Compiled {
     ghost view = { λ c. c.workload };
 
     ghost invariant = { λ c. (c.calls ≡ grounding (plain_workload c.workload))
-        × (map plain_lcommand c.commands.items ≡ transformed (plain_workload c.workload))
         × (c.declared ≡ declarations (plain_workload c.workload))
         × AreWritten (plain_workload c.workload) (map (λ row. row.items) c.written.items)
         × AreForms (plain_workload c.workload) (map plain_lcommand c.forms.forms.items) c.forms.places.items
@@ -65,21 +65,19 @@ impl Model for Compiled {
 }
 
 impl Compiled {
-    /// Takes a workload with the places of its names, its ground calls, their L forms, their transformed commands, and what these
-    /// can write. It takes no memory.
+    /// Takes a workload with the places of its names, its ground calls, their L forms, and what these can write. It takes no
+    /// memory.
     pub fn new(
         workload: Accepted,
         declared: Declarations,
         calls: Grounding,
         forms: Forms,
-        commands: List<LCommand>,
         written: Vec<Vec<bool>>,
     ) -> Compiled
         requires declared { declared ≡ declarations (plain_workload workload) }
         requires calls { calls ≡ grounding (plain_workload workload) }
         requires forms { AreForms (plain_workload workload) (map plain_lcommand forms.forms.items) forms.places.items }
         requires names { map (λ ns. ns.items) forms.names.items ≡ map named (map plain_lcommand forms.forms.items) }
-        requires commands { map plain_lcommand commands.items ≡ transformed (plain_workload workload) }
         requires written { AreWritten (plain_workload workload) (map (λ row. row.items) written.items) }
         ensures { plain_workload result ≡ plain_workload workload }
     {
@@ -88,7 +86,6 @@ impl Compiled {
             declared,
             calls,
             forms,
-            commands,
             written,
         }
     }
@@ -122,11 +119,21 @@ impl Compiled {
         &self.forms
     }
 
-    /// Lends the transformed commands, one for each ground call.
-    pub fn commands(&self) -> &[LCommand]
-        ensures { map plain_lcommand result.now ≡ transformed (plain_workload self.now) }
+    /// The transformed command of the ground call of this number, below that of `calls`: the delta transform, at the call's site,
+    /// of its L form. It is made anew each time.
+    ///
+    /// # Errors
+    ///
+    /// `Memory` when out of memory.
+    pub fn command(&self, alloc: Global, number: usize) -> Result<LCommand, Memory>
+        requires { number < length (grounds (plain_workload self.now)) }
+        ensures { IfOk result (λ c. slice_get (transformed (plain_workload self.now)) number ≡ Some (plain_lcommand c)) }
     {
-        self.commands.as_slice()
+        let sites = site_count(self.workload());
+        let calls = self.calls();
+        let call = &calls[number];
+        let form = self.forms().form(number);
+        transform(alloc, form, call.site, sites)
     }
 
     /// Whether a clause has a term on a delta of a site that some ground call can write there, in time in proportion to its

@@ -36,10 +36,10 @@ pub fn residual(
     // its rules hold
     let _workload = c.workload().workload();
     let calls = c.calls();
-    let commands = c.commands();
+    let command = c.command(alloc, number)?;
     let split = without_deltas(alloc, base)?;
     let call = &calls[number];
-    let row = walk(alloc, &commands[number], &split)?;
+    let row = walk(alloc, &command, &split)?;
     let Row {
         formula: _,
         residual,

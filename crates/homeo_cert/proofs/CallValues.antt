@@ -1,13 +1,11 @@
 -- What is made of each ground call of a workload, in their order.
 use Rattle.std.proofs.Common.{◌≡◌, List, map, sym, ap, ◌∙◌}
-use Rattle.homeo_syntax.specs.LowView.{plain_lcommand}
 use Rattle.homeo_syntax.specs.Source as s
-use Rattle.homeo_syntax.specs.declared.low.LCommand.{LCommand}
 use Rattle.homeo_meaning.specs.Ground.{plain_ground, grounds}
 use Rattle.homeo_meaning.specs.declared.call.GroundCall.{GroundCall}
 use Rattle.homeo_plan.specs.Key.{definitions as plan_definitions}
-use Rattle.homeo_plan.specs.Planned.{sites_of, planned_call, planned, transformed}
-use Rattle.homeo_plan.specs.Template.{PlannedCall, shifted}
+use Rattle.homeo_plan.specs.Planned.{planned_call, planned}
+use Rattle.homeo_plan.specs.Template.{PlannedCall}
 use Rattle.homeo_build.proofs.Grown.{map_map}
 
 -- what is made of a ground call, as it is planned
@@ -22,9 +20,3 @@ unfolding plan_definitions
 of_calls w h calls are =
     sym (map_map plain_ground (λ g. h (planned_call w g)) calls) ∙ ap (map (λ g. h (planned_call w g))) are
     ∙ sym (map_map (planned_call w) h (grounds w))
-
-pub commands_are :
-    (w : s.Workload) (calls : List GroundCall) (commands : List LCommand) → map plain_ground calls ≡ grounds w →
-    map plain_lcommand commands ≡ transformed w → map plain_lcommand commands ≡ map (of_call w (shifted (sites_of w))) calls
-unfolding plan_definitions
-commands_are w calls commands are made = made ∙ sym (of_calls w (shifted (sites_of w)) calls are)

@@ -1,5 +1,4 @@
--- Where a workload has no fault, no table of a ground call has too many rows. And the tables of the transformed commands are
--- those of the ground calls.
+-- Where a workload has no fault, no table of a ground call has too many rows.
 use Rattle.std.proofs.Common.{◌≡◌, ℕ, ◌+◌, ◌^◌, ◌<◌, ◌≤◌, Bool, true, false, ◌||◌, List, [], ◌∷◌, ◌++◌, map, length, take, get_or, Some, All, refl, sym, ap, subst, ◌∙◌, arith}
 use Rattle.std.specs.Prelude.{slice_get, nat_lt}
 use Rattle.std.specs.List.{flat_map}
@@ -7,8 +6,6 @@ use Rattle.std.proofs.Math.Nat.{one-le-mul}
 use Rattle.std.proofs.lemmas.Bool.Decides.{nat_tests}
 use Rattle.std.proofs.lemmas.List.{get_or-map, length-map, map-append}
 use Rattle.homeo_syntax.specs.Source as s
-use Rattle.homeo_syntax.specs.LowView.{plain_lcommand}
-use Rattle.homeo_syntax.specs.declared.low.LCommand.{LCommand}
 use Rattle.homeo_syntax.specs.Low.{Command, Commands, Skip, Assign, Write, Print, Seq, If, NoCommand, MoreCommand}
 use Rattle.homeo_meaning.specs.Key.{definitions as meaning_definitions}
 use Rattle.homeo_meaning.specs.CallForm.{body_form, call_form, ground_form}
@@ -31,7 +28,7 @@ use Rattle.homeo_meaning.proofs.GroundCalls.{Every}
 use Rattle.homeo_meaning.proofs.SoundRules.{all_none, all_more, names_one, named-is}
 use Rattle.homeo_meaning.proofs.TransactionPlaces.{transaction_place}
 use Rattle.homeo_plan.specs.Key.{definitions as plan_definitions}
-use Rattle.homeo_plan.specs.Planned.{sites_of, planned_call, planned, transformed}
+use Rattle.homeo_plan.specs.Planned.{sites_of, planned_call}
 use Rattle.homeo_plan.specs.Template.{shifted}
 use Rattle.homeo_plan.proofs.PlannedCalls.{every_both, every_distinct}
 use Rattle.homeo_plan.proofs.RowCounts.{rows_shift}
@@ -120,39 +117,7 @@ grounds_few w none =
     let few = few_from 1024 (λ (c : SitedCall). c.name) [] (ground_calls w) (omega arith) limits.grounds in
     omega (arith, few, length-map (ground_calls w) (ground_of_sited w))
 
--- ---- the commands of the ground calls
-module _
-    (w : s.Workload) (calls : List GroundCall) (commands : List LCommand)
-    (grounds_are : map plain_ground calls ≡ grounds w) (transformed_are : map plain_lcommand commands ≡ transformed w)
-  where
-    pub as_many : length commands ≡ length calls
-    unfolding plan_definitions
-    as_many = omega (
-      arith,
-      length-map calls plain_ground,
-      length-map commands plain_lcommand,
-      ap length grounds_are,
-      ap length transformed_are,
-      length-map (planned w) (shifted (sites_of w)),
-      length-map (grounds w) (planned_call w),
-    )
-
-    pub command_is :
-        (i : ℕ) (g : GroundCall) (c : LCommand) → i < length calls → g ≡ get_or calls i g → c ≡ get_or commands i c →
-        plain_lcommand c ≡ shifted (sites_of w) (planned_call w (plain_ground g))
-    unfolding plan_definitions
-    command_is i g c within is_call is_command =
-        let here : plain_ground g ≡ get_or (grounds w) i (plain_ground g) =
-        ap plain_ground is_call ∙ sym (get_or-map plain_ground calls i g (plain_ground g) within) ∙ ap (λ l. get_or l i (plain_ground g)) grounds_are in
-        let few : i < length (grounds w) = omega (arith, within, length-map calls plain_ground, ap length grounds_are) in
-        let few_planned : i < length (planned w) = omega (arith, few, length-map (grounds w) (planned_call w)) in
-        ap plain_lcommand is_command
-        ∙ sym (get_or-map plain_lcommand commands i c (plain_lcommand c) (omega (arith, within, as_many)))
-        ∙ ap (λ l. get_or l i (plain_lcommand c)) transformed_are
-        ∙ get_or-map (shifted (sites_of w)) (planned w) i (planned_call w (plain_ground g)) (plain_lcommand c) few_planned
-        ∙ ap (shifted (sites_of w))
-        (get_or-map (planned_call w) (grounds w) i (plain_ground g) (planned_call w (plain_ground g)) few ∙ ap (planned_call w) (sym here))
-
+-- ---- tables that are not empty
 mutual
   unfolding meaning_definitions
 

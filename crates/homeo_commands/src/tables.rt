@@ -51,10 +51,10 @@ fn push_calls(alloc: Global, out: &mut Vec<u8>, c: &Compiled) -> Result<Vec<Vec<
     let w = c.workload().workload();
     let objects = ObjectNames::of(alloc, w)?;
     let calls = c.calls();
-    let commands = c.commands();
     let mut tables = Vec::new(alloc);
     for (number, call) in calls.iter().enumerate() {
-        let rows = table(alloc, &commands[number])?;
+        let command = c.command(alloc, number)?;
+        let rows = table(alloc, &command)?;
         print_table(out, w, &objects, number as u64, call, rows.as_slice())?;
         tables.push(rows)?;
     }

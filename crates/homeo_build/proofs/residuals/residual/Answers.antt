@@ -17,8 +17,7 @@ use Rattle.homeo_split.specs.CanExec.{run_limit, can_exec}
 use Rattle.homeo_build.specs.Key.{definitions}
 use Rattle.homeo_build.specs.Plan.{residual_at}
 use Rattle.homeo_build.proofs.FormsMade.{placed_map}
-use Rattle.homeo_build.proofs.GroundCalls.{of_call, of_calls, commands_are, can_here, ground_below}
-use Rattle.homeo_build.proofs.Grown.{same_length, same_place}
+use Rattle.homeo_build.proofs.GroundCalls.{of_call, of_calls, command_is, can_here, ground_below}
 use Rattle.homeo_build.proofs.Planning.{can_plan}
 use Rattle.homeo_build.proofs.Undivided.{undivided}
 use Rattle.homeo_build.proofs.residuals.residual.Goals as goal
@@ -28,32 +27,19 @@ bounds-calls-number c =
     let calls = c.calls-calls in
     ground_below (plain_workload c.args.c.now) calls.result.now c.args.number calls.ensures c.requires.number
 
-pub bounds-commands-number : goal.bounds-commands-number
-bounds-commands-number c =
-    let w = plain_workload c.args.c.now in
-    let calls = c.calls-calls in
-    let commands = c.commands-commands in
-    let are = commands_are w calls.result.now commands.result.now calls.ensures commands.ensures in
-    subst (λ n. c.args.number < n) (sym (same_length plain_lcommand (of_call w (shifted (sites_of w))) commands.result.now calls.result.now are))
-    (ground_below w calls.result.now c.args.number calls.ensures c.requires.number)
-
 pub walk-requires : goal.walk-requires
 walk-requires c =
     let w = plain_workload c.args.c.now in
     let base = c.args.base.now.items in
     let calls = c.calls-calls in
-    let commands = c.commands-commands in
     let n = c.args.number in
     let call = c.index-calls-number.result in
-    let command = c.index-commands-number.result in
+    let command = c.in_ok-command.command in
     let within = ground_below w calls.result.now n calls.ensures c.requires.number in
     let accepted = subst (λ (v : Workload). IsAccepted (plain_workload v)) c.workload.ensures c.workload-workload.ensures.accepted in
     let can = can_here w calls.result.now n call accepted calls.ensures within c.index-calls-number.is in
     let plan = can_plan w (plain_ground call) base accepted can.called.made c.requires.within can.site in
-    let are = commands_are w calls.result.now commands.result.now calls.ensures commands.ensures in
-    let same =
-    same_place plain_lcommand (of_call w (shifted (sites_of w))) commands.result.now calls.result.now n command call are
-    within c.index-commands-number.is c.index-calls-number.is in
+    let same = command_is w calls.result.now n call (plain_lcommand command) calls.ensures within c.index-calls-number.is c.in_ok-command.ensures in
     ap (can_exec run_limit (plain_lcommand command)) (undivided c.in_ok-split.split c.in_ok-split.ensures.deltas)
     ∙ ap (λ values. can_exec run_limit (plain_lcommand command) (whole (values_of values))) c.in_ok-split.ensures.base
     ∙ ap (λ (d : Command). can_exec run_limit d (whole (values_of base))) same ∙ plan.runs
@@ -66,15 +52,11 @@ returns c =
     let base = c.args.base.now.items in
     let b = values_of base in
     let calls = c.calls-calls in
-    let commands = c.commands-commands in
     let n = c.args.number in
     let call = c.index-calls-number.result in
-    let command = c.index-commands-number.result in
+    let command = c.in_ok-command.command in
     let within = ground_below w calls.result.now n calls.ensures c.requires.number in
-    let are = commands_are w calls.result.now commands.result.now calls.ensures commands.ensures in
-    let same =
-    same_place plain_lcommand (of_call w (shifted k)) commands.result.now calls.result.now n command call are
-    within c.index-commands-number.is c.index-calls-number.is in
+    let same = command_is w calls.result.now n call (plain_lcommand command) calls.ensures within c.index-calls-number.is c.in_ok-command.ensures in
     let row =
     c.in_ok-row.ensures.row ∙ ap (row_at (table (plain_lcommand command))) (undivided c.in_ok-split.split c.in_ok-split.ensures.deltas)
     ∙ ap (λ values. row_at (table (plain_lcommand command)) (whole (values_of values))) c.in_ok-split.ensures.base

@@ -10,12 +10,13 @@ use Rattle.homeo_plan.specs.PlanView.{plain_row}
 use Rattle.homeo_plan.specs.Planned.{sites_of, planned_call}
 use Rattle.homeo_plan.specs.Table.{table}
 use Rattle.homeo_plan.specs.Template.{shifted}
+use Rattle.homeo_build.proofs.GroundCalls.{command_is, call_below}
 use Rattle.homeo_joint.specs.Counts.{plain_table}
 use Rattle.homeo_print.specs.Key.{definitions as print_definitions}
 use Rattle.homeo_print.specs.Tables.{call_table, table_text}
 use Rattle.homeo_commands.specs.inner.Key.{definitions}
 use Rattle.homeo_commands.specs.inner.Tabulated.{HasFewRows, calls_text}
-use Rattle.homeo_commands.proofs.Tabulating.{as_many, command_is, few_here, rows_counted, texts_more, tables_more}
+use Rattle.homeo_commands.proofs.Tabulating.{few_here, rows_counted, texts_more, tables_more}
 use Rattle.homeo_commands.proofs.tables.push_calls.Goals as goal
 
 abbrev HasSome : Vec Row Global → Type 0
@@ -35,10 +36,8 @@ loop-number-init c =
       counted = subst (All IsCounted) (sym none) (All-nil IsCounted);
     }
 
-pub bounds-commands-number : goal.bounds-commands-number
-bounds-commands-number c =
-    let many = as_many (plain_workload c.args.c.now) c.calls-calls.result.now c.commands-commands.result.now c.calls-calls.ensures c.commands-commands.ensures in
-    omega (arith, many, c.loop-number-test.true)
+pub command-requires : goal.command-command-requires
+command-requires c = call_below (plain_workload c.args.c.now) c.calls-calls.result.now c.loop-number.number c.calls-calls.ensures c.loop-number-test.true
 
 pub loop-number-preserved : goal.loop-number-preserved
 unfolding print_definitions
@@ -54,8 +53,8 @@ loop-number-preserved c =
     let inv = c.loop-number.invariant in
     let more = c.in_ok-push.ensures.items in
     let grounds_are = c.calls-calls.ensures in
-    let command : plain_lcommand c.index-commands-number.result ≡ shifted (sites_of w) (planned_call w g) =
-    command_is w calls c.commands-commands.result.now grounds_are c.commands-commands.ensures k call c.index-commands-number.result within is c.index-commands-number.is in
+    let command : plain_lcommand c.in_ok-command.command ≡ shifted (sites_of w) (planned_call w g) =
+    command_is w calls k call (plain_lcommand c.in_ok-command.command) grounds_are within is c.in_ok-command.ensures in
     let made : plain_table rows ≡ call_table w g = c.in_ok-rows.ensures.rows ∙ ap table command in
     let few : HasFewRows w g = few_here w calls k call within is (subst (All (HasFewRows w)) (sym grounds_are) c.requires.few) in
     let counted = rows_counted w g _ _ few command (rows.ok.0 ∙ c.in_ok-rows.ensures.count) in

@@ -15,14 +15,14 @@ none = record { delta = record { object = 0; site = 0 }; factor = pos 0 }
 pub bounds-rows-site : goal.bounds-rows-site
 bounds-rows-site c =
     row_there (plain_workload c.args.self.now) (λ row. row.items) c.self.inside.written.items c.as_slice-rows.result.now c.args.site
-    (subst (λ (v : Workload). AreWritten (plain_workload v) (map (λ (row : Vec Bool Global). row.items) c.self.inside.written.items)) c.self.view_is c.self.invariant.3) c.as_slice-rows.ensures.value c.requires
+    (subst (λ (v : Workload). AreWritten (plain_workload v) (map (λ (row : Vec Bool Global). row.items) c.self.inside.written.items)) c.self.view_is c.self.invariant.2) c.as_slice-rows.ensures.value c.requires
 
 pub returns-then-item_or : goal.returns-then-item_or
 unfolding none
 returns-then-item_or c =
     let w = plain_workload c.args.self.now in
     let t : Term = get_or c.as_slice-term-items.result.now c.loop-term.term-index none in
-    let written = subst (λ (v : Workload). AreWritten (plain_workload v) (map (λ (row : Vec Bool Global). row.items) c.self.inside.written.items)) c.self.view_is c.self.invariant.3 in
+    let written = subst (λ (v : Workload). AreWritten (plain_workload v) (map (λ (row : Vec Bool Global). row.items) c.self.inside.written.items)) c.self.view_is c.self.invariant.2 in
     let told = row_tells w (λ row. row.items) c.self.inside.written.items c.as_slice-rows.result.now c.args.site written c.as_slice-rows.ensures.value c.requires
     c.index-rows-site.result t.delta.object c.index-rows-site.is in
     let value = sym c.if-item_or.true ∙ c.item_or.ensures ∙ ap (λ r. get_or r t.delta.object false) c.as_slice-row.ensures.value ∙ told in
@@ -35,7 +35,7 @@ unfolding none
 loop-term-preserved c =
     let w = plain_workload c.args.self.now in
     let t : Term = get_or c.as_slice-term-items.result.now c.loop-term.term-index none in
-    let written = subst (λ (v : Workload). AreWritten (plain_workload v) (map (λ (row : Vec Bool Global). row.items) c.self.inside.written.items)) c.self.view_is c.self.invariant.3 in
+    let written = subst (λ (v : Workload). AreWritten (plain_workload v) (map (λ (row : Vec Bool Global). row.items) c.self.inside.written.items)) c.self.view_is c.self.invariant.2 in
     let told = row_tells w (λ row. row.items) c.self.inside.written.items c.as_slice-rows.result.now c.args.site written c.as_slice-rows.ensures.value c.requires
     c.index-rows-site.result t.delta.object c.index-rows-site.is in
     none_take (on_written w c.args.site) c.as_slice-term-items.result.now c.loop-term.term-index none c.loop-term-test.true c.loop-term.invariant

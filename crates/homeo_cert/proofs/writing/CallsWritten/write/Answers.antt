@@ -1,4 +1,4 @@
-use Rattle.std.proofs.Common.{length, refl, ap, subst, arith}
+use Rattle.std.proofs.Common.{length, refl, ap, subst}
 use Rattle.std.proofs.lemmas.Result.{on_ok_weaker}
 use Rattle.serde_json.specs.Events.{SendsValue}
 use Rattle.homeo_syntax.specs.Low.{Command}
@@ -6,23 +6,17 @@ use Rattle.homeo_syntax.specs.LowView.{plain_lcommand}
 use Rattle.homeo_syntax.specs.SourceView.{plain_workload}
 use Rattle.homeo_plan.specs.Key.{definitions as plan_definitions}
 use Rattle.homeo_plan.specs.Planned.{sites_of}
-use Rattle.homeo_plan.specs.Template.{PlannedCall, shifted}
-use Rattle.homeo_build.proofs.Grown.{same_length, same_place}
+use Rattle.homeo_plan.specs.Template.{PlannedCall}
+use Rattle.homeo_build.proofs.GroundCalls.{command_is, call_below}
 use Rattle.homeo_certificate.specs.Certified.{certified_call}
 use Rattle.homeo_certificate.specs.Json.{list_data}
 use Rattle.homeo_certificate.specs.Text.{call_data}
-use Rattle.homeo_cert.proofs.CallValues.{of_call, of_calls, commands_are}
+use Rattle.homeo_cert.proofs.CallValues.{of_call, of_calls}
 use Rattle.homeo_cert.proofs.Lists.{list_more, list_sent}
 use Rattle.homeo_cert.proofs.writing.CallsWritten.write.Goals as goal
 
-pub bounds-commands-i : goal.bounds-commands-i
-bounds-commands-i g c =
-    let w = plain_workload c.args.self.now.compiled.now in
-    let calls = c.calls-calls in
-    let commands = c.commands-commands in
-    let are = commands_are w calls.result.now commands.result.now calls.ensures commands.ensures in
-    let count = same_length plain_lcommand (of_call w (shifted (sites_of w))) commands.result.now calls.result.now are in
-    omega (arith, count, c.loop-i-test.true)
+pub command-requires : goal.command-requires
+command-requires g c = call_below (plain_workload c.args.self.now.compiled.now) c.calls-calls.result.now c.loop-i.i c.calls-calls.ensures c.loop-i-test.true
 
 pub loop-i-preserved : goal.loop-i-preserved
 unfolding plan_definitions
@@ -30,13 +24,9 @@ loop-i-preserved g c =
     let w = plain_workload c.args.self.now.compiled.now in
     let k = sites_of w in
     let calls = c.calls-calls in
-    let commands = c.commands-commands in
-    let are = commands_are w calls.result.now commands.result.now calls.ensures commands.ensures in
     let i = c.loop-i.i in
     let call = c.index-calls-i.result in
-    let command =
-    same_place plain_lcommand (of_call w (shifted k)) commands.result.now calls.result.now i c.index-commands-i.result call are c.loop-i-test.true
-    c.index-commands-i.is c.index-calls-i.is in
+    let command = command_is w calls.result.now i call (plain_lcommand c.in-Ok.command) calls.ensures c.loop-i-test.true c.index-calls-i.is c.in-Ok.ensures in
     let old = g.S.Serializer.written c.loop-i.out in
     let new = g.S.Serializer.written c.write_call.new.out in
     let same = ap (λ (d : Command). call_data (record { site = call.site; command = d })) command in
