@@ -1,7 +1,6 @@
 -- The template of the outline and the slacks is spread over the sites.
-use Rattle.std.proofs.Common.{◌≡◌, ap, ◌∙◌}
+use Rattle.std.proofs.Common.{ap, ◌∙◌}
 use Rattle.std.proofs.lemmas.Result.{IfOk-weaker}
-use Rattle.homeo_plan.specs.PlanView.{plain_template}
 use Rattle.homeo_follow.specs.ObjectTemplate.{expanded_template}
 use Rattle.homeo_outline.specs.Key.{definitions}
 use Rattle.homeo_outline.specs.ObjectPlan.{template_with}
@@ -16,8 +15,6 @@ returns-clause-sites c =
 pub returns-clause-template : goal.returns-clause-template
 unfolding definitions
 returns-clause-template c =
-    let slacks = c.as_slice.result.now in
-    let o = c.deref.result.now in
     IfOk-weaker c.at_sites.result _ _ (λ t template.
     template
     ∙ (λ i. expanded_template (c.in_ok-whole.ensures.sites i) (c.in_ok-whole.ensures.template i))
