@@ -77,6 +77,7 @@ set_again s t x a p q h y = at (x == y) refl
   where
     moved : form_in t y ≡ form_there y (place_in s y) (set s.forms.items (place_in s x) (some x a))
     moved = λ i. form_there y (get_or (p i) y 0) (q i)
+
     at : (b : Bool) → (x == y) ≡ b → form_in t y ≡ cond b (Some a) (form_in s y)
     at true e = moved ∙ subst (λ z. form_there z (place_in s z) (set s.forms.items (place_in s x) (some x a)) ≡ Some a) (grind (arith, nat_tests, e)) (same_there x (place_in s x) a s.forms.items h)
     at false e = moved ∙ others_there x y (place_in s x) (place_in s y) a s.forms.items e h

@@ -78,6 +78,7 @@ put_object s o p x a e h = (λ i l. at l i) ∙ sym (ap (λ q. put (forms_of s) 
   where
     t : Standing
     t = record { base = s.base; are_whole = s.are_whole; objects = o; others = s.others }
+
     at : (l : Location) → forms_of t l ≡ put (forms_of s) (BaseAt x) a l
     at (TempAt m) = refl
     at (BaseAt y) =
@@ -93,18 +94,23 @@ put_other s t p a eb ew eo k h = λ i l. at_each_place P each l i
   where
     P : Location → Type 0
     P l = forms_of t l ≡ put (forms_of s) (plain_place p) a l
+
     tests : ghosts.eq ≡ (λ a b. is_at (plain_place a) b)
     tests = λ i a b. same-places a b i
+
     got : (q : Place) → get_by (is_at (plain_place q)) t.others ≡ cond (is_at (plain_place p) q) (Some a) (get_by (is_at (plain_place q)) s.others)
     got = subst (λ (e : Place → Place → Bool). (q : Place) → get e t.others q ≡ cond (e p q) (Some a) (get e s.others q)) tests h
+
     first : (q : Place) → first_forms t.are_whole (values_of t.base.now) (plain_place q) ≡ first_forms s.are_whole (values_of s.base.now) (plain_place q)
     first q = λ i. first_forms (ew i) (values_of (eb i).now) (plain_place q)
+
     mapped :
         (q : Place) → unwrap_or (get_by (is_at (plain_place q)) t.others) (first_forms t.are_whole (values_of t.base.now) (plain_place q))
         ≡ cond (is_at (plain_place p) q) a (unwrap_or (get_by (is_at (plain_place q)) s.others) (first_forms s.are_whole (values_of s.base.now) (plain_place q)))
     mapped q =
         (λ i. unwrap_or (got q i) (first q i))
         ∙ choice (is_at (plain_place p) q) a (first_forms s.are_whole (values_of s.base.now) (plain_place q)) (get_by (is_at (plain_place q)) s.others)
+
     each : (q : Place) → P (plain_place q)
     each (Named n) = mapped (Named n)
     each (Fresh n) = mapped (Fresh n)

@@ -112,12 +112,7 @@ impl<'a> Standing<'a> {
     }
 
     /// The form at a place, with a number added as in a sum.
-    pub(crate) fn form_beside(
-        &self,
-        alloc: Global,
-        place: Place,
-        n: i128,
-    ) -> Result<Form, Memory>
+    pub(crate) fn form_beside(&self, alloc: Global, place: Place, n: i128) -> Result<Form, Memory>
         requires place_small { Numbers (IsSmall form_limit) (forms_of self.now (plain_place place)) }
         requires number_small { IsSmall form_limit n }
         ensures { IfOk result (λ f. f ≡ add_forms (constant_form n) (add_forms (forms_of self.now (plain_place place)) (constant_form (pos 0)))) }

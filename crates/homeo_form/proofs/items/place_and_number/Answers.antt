@@ -1,5 +1,5 @@
 -- The first is what stands at the place, and the second the number.
-use Rattle.std.proofs.Common.{rules, ◌≡◌, map, length, refl, sym, subst, arith}
+use Rattle.std.proofs.Common.{rules, map, refl, sym, subst, arith}
 use Rattle.std.proofs.lemmas.Bool.Decides.{nat_tests}
 use Rattle.homeo_syntax.specs.LowView.{low_exprs, plain_lexpr}
 use Rattle.homeo_form.specs.inner.Items.{IsPlaceAndNumber}

@@ -1,10 +1,10 @@
 -- The base with the number, and the delta that stands for the object.
-use Rattle.std.proofs.Common.{rules, w64, to_z, of_z, ◌+ℤ◌, refl, sym, ap, ◌∙◌, subst, arith}
+use Rattle.std.proofs.Common.{rules, w64, to_z, of_z, ◌+ℤ◌, ap, ◌∙◌, subst, arith}
 use Rattle.std.proofs.lemmas.Int.{ints}
 use Rattle.std.proofs.lemmas.Result.{IfOk-weaker}
 use Rattle.homeo_meaning.specs.Serial.{values_of}
 use Rattle.homeo_meaning.specs.Small.{IsSmall}
-use Rattle.homeo_form.specs.inner.Terms.{sum_limit, beside}
+use Rattle.homeo_form.specs.inner.Terms.{sum_limit}
 use Rattle.homeo_form.proofs.Adding.{limit_wider}
 use Rattle.homeo_form.proofs.Widths.{sum_kept}
 use Rattle.homeo_form.proofs.Stands.{object_small, object_with}

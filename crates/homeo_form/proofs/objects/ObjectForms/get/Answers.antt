@@ -1,5 +1,5 @@
 -- What stands at the object's place, if the object stands there.
-use Rattle.std.proofs.Common.{sym, ap, ◌∙◌, subst, refl, arith}
+use Rattle.std.proofs.Common.{ap, ◌∙◌, arith}
 use Rattle.homeo_form.specs.Objects.{form_there}
 use Rattle.homeo_form.proofs.ObjectPlaces.{inside, found, missing}
 use Rattle.homeo_form.proofs.objects.ObjectForms.get.Goals as goal

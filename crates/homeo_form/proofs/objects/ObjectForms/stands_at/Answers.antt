@@ -1,6 +1,5 @@
 -- The object at the place, if one stands there.
 use Rattle.std.proofs.Common.{is_some, ap, sym, ◌∙◌, arith}
-use Rattle.std.proofs.lemmas.Bool.Decides.{nat_tests}
 use Rattle.homeo_form.proofs.ObjectPlaces.{there_is, there_none, some_there}
 use Rattle.homeo_form.proofs.objects.ObjectForms.stands_at.Goals as goal
 
