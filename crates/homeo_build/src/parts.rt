@@ -63,7 +63,15 @@ pub(crate) fn parts_after(
     let mut follower = Follower::new(alloc, base);
     let mut parts = List::new(alloc);
     for (i, form) in forms.forms.as_slice().iter().enumerate() {
-        let part = part_after(alloc, form, names[i].as_slice(), &kept[i], &last.base, base, &mut follower)?;
+        let part = part_after(
+            alloc,
+            form,
+            names[i].as_slice(),
+            &kept[i],
+            &last.base,
+            base,
+            &mut follower,
+        )?;
         parts.push(part)?;
     }
     Ok(parts)
