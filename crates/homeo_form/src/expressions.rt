@@ -32,7 +32,13 @@ pub fn form(alloc: Global, standing: &Standing, e: &LExpr) -> Result<Form, Memor
         LExpr::Literal(n) => Ok(Form::value(alloc, *n)),
         LExpr::Temp(t) => standing.form_at(alloc, place_of_temp(*t)),
         LExpr::Read(x) => standing.form_at(alloc, place_of(*x)),
-        LExpr::Sum(es) => sum(alloc, standing, es.as_slice()),
+        LExpr::Sum(es) => {
+            let es = es.as_slice();
+            match place_and_number(es) {
+                Some((place, n)) => standing.form_beside(alloc, place, n),
+                None => sum(alloc, standing, es),
+            }
+        }
         LExpr::Product(es) => product(alloc, standing, es.as_slice()),
         LExpr::Neg(e) => {
             let part = form(alloc, standing, e)?;
@@ -47,9 +53,6 @@ fn sum(alloc: Global, standing: &Standing, es: &[LExpr]) -> Result<Form, Memory>
     requires { CanSum (IsSmall form_limit) (forms_of standing.now) (constant_form (pos 0)) (low_exprs (map plain_lexpr es.now)) }
     ensures { IfOk result (λ f. f ≡ sum_form (forms_of standing.now) (constant_form (pos 0)) (low_exprs (map plain_lexpr es.now))) }
 {
-    if let Some((place, n)) = place_and_number(es) {
-        return standing.form_beside(alloc, place, n);
-    }
     let mut total = Total::with_room(alloc, es.len())?;
     for e in es {
         total = match item_of(e) {

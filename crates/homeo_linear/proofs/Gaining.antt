@@ -13,7 +13,7 @@ use Rattle.homeo_plan.specs.FormSizes.{Numbers}
 use Rattle.homeo_plan.specs.Limit.{form_limit}
 use Rattle.homeo_plan.specs.declared.forms.Delta.{Delta}
 use Rattle.homeo_plan.specs.declared.forms.Term.{Term}
-use Rattle.homeo_plan.specs.Linear.{AreInOrder, Linear, Forms, delta_before, deltas_of, with_term, add_term, add_delta, add_deltas, scale_form, support}
+use Rattle.homeo_plan.specs.Linear.{AreInOrder, Linear, Forms, delta_before, deltas_of, with_term, add_term, add_deltas, scale_form, support}
 use Rattle.homeo_follow.specs.Follow.{object_delta, object_form, gain, print_needs, write_needs}
 use Rattle.homeo_plan.proofs.DeltaLists.{has, any_adds, has_adds, in_order_adds, same_deltas}
 use Rattle.homeo_plan.proofs.Factors.{same_delta_refl}

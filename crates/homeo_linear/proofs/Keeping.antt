@@ -17,7 +17,7 @@ use Rattle.homeo_meaning.specs.Small.{IsSmall}
 use Rattle.homeo_meaning.proofs.Steps.{drop_next, drop_none}
 use Rattle.homeo_plan.specs.Key.{definitions as plan_definitions}
 use Rattle.homeo_plan.specs.Atoms.{true_cond}
-use Rattle.homeo_plan.specs.FormSizes.{CanForm, CanTest, CanCond}
+use Rattle.homeo_plan.specs.FormSizes.{CanTest, CanCond}
 use Rattle.homeo_plan.specs.Linear.{Linear, Forms, base_forms, form}
 use Rattle.homeo_plan.specs.Each.{Each}
 use Rattle.homeo_plan.specs.Holding.{IsOn, AtomHolds}

@@ -1,5 +1,5 @@
 -- Each kind of expression, and one more term or factor.
-use Rattle.std.proofs.Common.{rules, sym, ap, ◌∙◌, subst, refl}
+use Rattle.std.proofs.Common.{rules, pos, sym, ap, ◌∙◌, subst, refl}
 use Rattle.std.proofs.lemmas.Result.{IfOk-weaker}
 use Rattle.homeo_syntax.specs.LowView.{plain_lexpr}
 use Rattle.homeo_syntax.specs.declared.low.LExpr.{the_lemmas}
@@ -8,6 +8,7 @@ use Rattle.homeo_meaning.specs.Small.{IsSmall}
 use Rattle.homeo_plan.specs.FormSizes.{Numbers}
 use Rattle.homeo_plan.specs.Linear.{constant_form, add_forms}
 use Rattle.homeo_plan.specs.Limit.{form_limit}
+use Rattle.homeo_split.specs.Places.{plain_place}
 use Rattle.homeo_form.specs.Standing.{forms_of}
 use Rattle.homeo_form.proofs.FormSteps.{one_is_small, sum_can, product_can, neg_can, neg_small, literal_form, temp_form, read_form, sum_is_form, product_is_form, neg_form, sum_step, sum_next, sum_stop, product_step, product_next, product_stop}
 use Rattle.homeo_form.proofs.ItemForms.{item_read, item_negated, negated_small, item_number, number_small}
@@ -17,13 +18,13 @@ use Rattle.homeo_form.proofs.expressions.+expressions.Goals.{sum-in-Read+in_ok-t
 
 pub form-sum-requires : goal.form-sum-requires
 form-sum-requires t c =
-    (search (rules, the_lemmas), sum_can (forms_of c.args.standing.now) c.args.e.now c.in-Sum.es c.as_slice.result.now c.in-Sum.is c.as_slice.ensures c.requires)
+    (search (rules, the_lemmas), sum_can (forms_of c.args.standing.now) c.args.e.now c.in-Sum.es c.as_slice-es.result.now c.in-Sum.is c.as_slice-es.ensures c.requires)
 
 pub form-product-requires : goal.form-product-requires
 form-product-requires t c = (
   search (rules, the_lemmas),
-  product_can (forms_of c.args.standing.now) c.args.e.now c.in-Product.es c.as_slice-in-Product.result.now c.in-Product.is
-      c.as_slice-in-Product.ensures c.requires,
+  product_can (forms_of c.args.standing.now) c.args.e.now c.in-Product.es c.as_slice.result.now c.in-Product.is
+      c.as_slice.ensures c.requires,
 )
 
 pub form-form-requires : goal.form-form-requires
@@ -52,16 +53,35 @@ form-returns-in-Read t c =
     IfOk-weaker c.form_at-in-Read.result _ _
     (λ r h. read_form (forms_of c.args.standing.now) c.args.e.now c.in-Read.x _ r c.in-Read.is c.place_of.ensures h) c.form_at-in-Read.ensures
 
-pub form-returns-in-Sum : goal.form-returns-in-Sum
-form-returns-in-Sum t c =
+pub form-form_beside-requires-clause-place_small : goal.form-form_beside-requires-clause-place_small
+form-form_beside-requires-clause-place_small t c =
+    let f = forms_of c.args.standing.now in
+    (c.in-Some.ensures.small f (sum_can f c.args.e.now c.in-Sum.es c.as_slice-es.result.now c.in-Sum.is c.as_slice-es.ensures c.requires)).0
+
+pub form-form_beside-requires-clause-number_small : goal.form-form_beside-requires-clause-number_small
+form-form_beside-requires-clause-number_small t c =
+    let f = forms_of c.args.standing.now in
+    subst (IsSmall form_limit) (sym (kept_wide c.in-Some.n _ (search rules) refl))
+    (c.in-Some.ensures.small f (sum_can f c.args.e.now c.in-Sum.es c.as_slice-es.result.now c.in-Sum.is c.as_slice-es.ensures c.requires)).1
+
+pub form-returns-in-Some : goal.form-returns-in-Some
+form-returns-in-Some t c =
+    let f = forms_of c.args.standing.now in
+    IfOk-weaker c.form_beside.result _ _
+    (λ r h. sum_is_form f c.args.e.now c.in-Sum.es c.as_slice-es.result.now r c.in-Sum.is c.as_slice-es.ensures
+    (h ∙ ap (λ n. add_forms (constant_form n) (add_forms (f (plain_place c.in-Some.place)) (constant_form (pos 0)))) (kept_wide c.in-Some.n _ (search rules) refl)
+    ∙ sym (c.in-Some.ensures.made f))) c.form_beside.ensures
+
+pub form-returns-in-None : goal.form-returns-in-None
+form-returns-in-None t c =
     IfOk-weaker c.sum.result _ _
-    (λ r h. sum_is_form (forms_of c.args.standing.now) c.args.e.now c.in-Sum.es c.as_slice.result.now r c.in-Sum.is c.as_slice.ensures h) c.sum.ensures
+    (λ r h. sum_is_form (forms_of c.args.standing.now) c.args.e.now c.in-Sum.es c.as_slice-es.result.now r c.in-Sum.is c.as_slice-es.ensures h) c.sum.ensures
 
 pub form-returns-in-Product : goal.form-returns-in-Product
 form-returns-in-Product t c =
     IfOk-weaker c.product.result _ _
-    (λ r h. product_is_form (forms_of c.args.standing.now) c.args.e.now c.in-Product.es c.as_slice-in-Product.result.now r c.in-Product.is
-    c.as_slice-in-Product.ensures h) c.product.ensures
+    (λ r h. product_is_form (forms_of c.args.standing.now) c.args.e.now c.in-Product.es c.as_slice.result.now r c.in-Product.is
+    c.as_slice.ensures h) c.product.ensures
 
 pub form-returns-in_ok-part-in-Neg : goal.form-returns-in_ok-part-in-Neg
 form-returns-in_ok-part-in-Neg t c =
