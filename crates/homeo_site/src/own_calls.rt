@@ -106,7 +106,7 @@ fn is_kept(own: &OwnCall) -> bool {
 fn none_made(alloc: Global, count: usize) -> Result<Vec<Option<Arc<OwnCall, Global>>>, Memory>
     ensures { IfOk result (λ v. v.items ≡ replicate count None) }
 {
-    let mut none = Vec::new(alloc);
+    let mut none = Vec::with_capacity(alloc, count)?;
     for _ in 0..count {
         none.push(None)?;
     }
