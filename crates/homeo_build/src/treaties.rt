@@ -158,7 +158,11 @@ fn template_of(alloc: Global, c: &Compiled, base: &Database, sites: u32) -> Resu
 }
 
 /// The bounds, by the sites' weights, of a template over whole objects; without weights none, as they are even.
-fn bounds_by_weights(alloc: Global, c: &Compiled, t: &SharedTemplate) -> Result<Option<Config>, Memory>
+fn bounds_by_weights(
+    alloc: Global,
+    c: &Compiled,
+    t: &SharedTemplate,
+) -> Result<Option<Config>, Memory>
     requires sites { t.now.outline.value.sites ≡ sites_of (plain_workload c.now) }
     requires not_negative { HaveSlack (spread t.now).clauses }
     requires small { Each (λ c. IsSmall form_limit c.slack) (spread t.now).clauses }

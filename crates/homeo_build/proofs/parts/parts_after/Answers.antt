@@ -7,6 +7,7 @@ use Rattle.homeo_follow.specs.Brought.{plain_part}
 use Rattle.homeo_follow.specs.Rebased.{rebased, gains}
 use Rattle.homeo_build.proofs.Following.{small_at, small_base, shared_part, shared_moved, lent_brought, forms_lent, parts_lent, names_lent, parts_all, all_moved, part_within, names_within, part_of, names_of, kept_stays, kept_rebased}
 use Rattle.homeo_build.proofs.Grown.{grown}
+use Rattle.homeo_build.proofs.parts.parts_after.Goals.{then-are_rebased, else-are_rebased}
 use Rattle.homeo_build.proofs.parts.parts_after.Goals as goal
 
 pub bounds-names-i : goal.bounds-names-i
@@ -116,10 +117,9 @@ loop-i-preserved c =
     names_lent made.forms.items fs made.names.items lent c.as_slice-form-items.ensures c.as_slice-names.ensures.value c.forms-forms.ensures.names in
     let base = c.args.base.now.items in
     let within = part_within (values_of last.base.items) fs kept lent c.loop-i.i parts names c.loop-i-test.true in
-    let pushed = ap (λ l. l.items) c.in_ok-push.ensures.ok in
-    (
+    let pushed = ap (λ l. l.items) c.in_ok-push.ensures.ok in (
       grown shared_part (lent_brought (values_of base)) c.loop-i.parts.items _ _ fs c.loop-i.i c.form-item.result c.loop-i-test.true c.form-item.is
-      pushed c.loop-i.invariant.0 c.in_ok-part.ensures,
+          pushed c.loop-i.invariant.0 c.in_ok-part.ensures,
       λ yes. elim c.if-are_rebased.branch [
         | then-are_rebased w ↦ (
             let found = w.is_rebased_part-are_rebased.ensures (sym w.are_rebased-is ∙ yes) in

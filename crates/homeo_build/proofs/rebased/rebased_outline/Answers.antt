@@ -1,5 +1,5 @@
 -- The outline of the plan, with rebased slacks, gives the template at the base.
-use Rattle.std.proofs.Common.{◌≡◌, IfSome, List, map, ℤ, ap, sym, subst, ◌∙◌}
+use Rattle.std.proofs.Common.{◌≡◌, IfSome, map, ℤ, ap, sym, subst, ◌∙◌}
 use Rattle.homeo_syntax.specs.Listed.{Listed}
 use Rattle.homeo_syntax.specs.LowView.{plain_lcommand}
 use Rattle.homeo_syntax.specs.SourceView.{plain_workload}
