@@ -15,7 +15,7 @@ use Rattle.homeo_syntax.specs.declared.low.SplitName.TheVariants as split
 use Rattle.homeo_syntax.specs.Key.{definitions as syntax_definitions}
 use Rattle.homeo_meaning.specs.Key.{definitions as meaning_definitions}
 use Rattle.homeo_meaning.specs.CallForm.{ground_form}
-use Rattle.homeo_meaning.specs.Ground.{Ground, plain_ground, grounds}
+use Rattle.homeo_meaning.specs.Ground.{plain_ground, grounds}
 use Rattle.homeo_meaning.specs.Whole.{IsWholeName, IsWhole, AreWhole}
 use Rattle.homeo_meaning.specs.declared.call.GroundCall.{GroundCall}
 use Rattle.homeo_plan.specs.Key.{definitions as plan_definitions}
