@@ -15,7 +15,7 @@ use Rattle.homeo_syntax.specs.declared.low.SplitName.TheVariants as split
 use Rattle.homeo_syntax.specs.Key.{definitions as syntax_definitions}
 use Rattle.homeo_meaning.specs.Key.{definitions as meaning_definitions}
 use Rattle.homeo_meaning.specs.CallForm.{ground_form}
-use Rattle.homeo_meaning.specs.Ground.{Ground, plain_ground, grounds}
+use Rattle.homeo_meaning.specs.Ground.{plain_ground, grounds}
 use Rattle.homeo_meaning.specs.Whole.{IsWholeName, IsWhole, AreWhole}
 use Rattle.homeo_meaning.specs.declared.call.GroundCall.{GroundCall}
 use Rattle.homeo_plan.specs.Key.{definitions as plan_definitions}
@@ -71,11 +71,11 @@ name_marks new old object name is put x =
 
 -- no other name is that of a whole object
 pub marks_divided :
-    (row : List Bool) (name : SplitName) → ((x : ℕ) × (name ≡ split.Base x)) ⊎ ((x : ℕ) × ((j : ℕ) × (name ≡ split.Delta x j))) →
+    (row : List Bool) (name : SplitName) → ((x : ℕ) × (name ≡ split.Base x)) ⊎ ((x : ℕ) × (j : ℕ) × (name ≡ split.Delta x j)) →
     Marked row row (λ x. names_whole x name)
 unfolding definitions
 marks_divided row name (inl b) = marks_none row (λ x. names_whole x name) (λ x. ap (names_whole x) b.1)
-marks_divided row name (inr d) = marks_none row (λ x. names_whole x name) (λ x. ap (names_whole x) d.1.1)
+marks_divided row name (inr d) = marks_none row (λ x. names_whole x name) (λ x. ap (names_whole x) d.2)
 
 -- ---- commands one after another
 low_push : (cs : List Command) (c : Command) (x : ℕ) → any_writes_object x (low_commands (cs ++ c ∷ [])) ≡ (any_writes_object x (low_commands cs) || writes_object x c)
@@ -161,7 +161,7 @@ mutual
   shifted_writes k i x (Write y e) h = write_shifted k i x y (shift_expr k e) h.0
   shifted_writes k i x (Print e) h = refl
   shifted_writes k i x (Seq cs) h = shifted_writes_all k i x cs h
-  shifted_writes k i x (If b c d) h = ap₂ (λ p q. p || q) (shifted_writes k i x c h.1.0) (shifted_writes k i x d h.1.1)
+  shifted_writes k i x (If b c d) h = ap₂ (λ p q. p || q) (shifted_writes k i x c h.1) (shifted_writes k i x d h.2)
 
   shifted_writes_all : (k i x : ℕ) (cs : Commands) → AreWhole cs → writes_all (delta_at i x) (shift_all k i cs) ≡ any_writes_object x cs
   shifted_writes_all k i x NoCommand h = refl
@@ -177,17 +177,17 @@ pub record Tell (w : s.Workload) (gs : List PlannedCall) (rows : List (List Bool
 abbrev pub first_calls : s.Workload → List GroundCall → ℕ → List PlannedCall
 first_calls w calls n = map (of_call w (λ g. g)) (take n calls)
 
+read_replicate : {X : Type 0} (k i : ℕ) (x : X) → get_or (replicate k x) i x ≡ x
+read_replicate zero i x = refl
+read_replicate (suc k) zero x = refl
+read_replicate (suc k) (suc i) x = read_replicate k i x
+
 pub tell_begin : (w : s.Workload) (calls : List GroundCall) (rows : List (List Bool)) (k : ℕ) → k ≡ sites_of w → rows ≡ replicate k [] → Tell w (first_calls w calls 0) rows
 unfolding plan_definitions
 tell_begin w calls rows k count are = record {
   count = ap length are ∙ length-replicate k [] ∙ count;
-  tell = λ i x h. ap (λ l. get_or (get_or l i []) x false) are ∙ ap (λ r. get_or r x false) (none k i);
+  tell = λ i x h. ap (λ (l : List (List Bool)). get_or (get_or l i []) x false) are ∙ ap (λ (r : List Bool). get_or r x false) (read_replicate k i []);
 }
-  where
-    none : (k i : ℕ) → get_or (replicate k []) i [] ≡ []
-    none zero i = refl
-    none (suc k) zero = refl
-    none (suc k) (suc i) = none k i
 
 written_push : (k : ℕ) (gs : List PlannedCall) (g : PlannedCall) (d : Delta) → is_written k (gs ++ g ∷ []) d ≡ (is_written k gs d || ((g.site == d.site) && writes d (shifted k g)))
 unfolding plan_definitions

@@ -1,5 +1,5 @@
 -- The command at the number is that of the ground call there, so the row that is walked is the call's.
-use Rattle.std.proofs.Common.{◌<◌, Some, sym, ap, subst, ◌∙◌}
+use Rattle.std.proofs.Common.{Some, sym, ap, subst, ◌∙◌}
 use Rattle.std.specs.Prelude.{slice_get}
 use Rattle.homeo_syntax.specs.Low.{Command}
 use Rattle.homeo_syntax.specs.LowView.{plain_lcommand}
@@ -12,7 +12,6 @@ use Rattle.homeo_meaning.specs.Serial.{values_of}
 use Rattle.homeo_plan.specs.Key.{definitions as plan_definitions}
 use Rattle.homeo_plan.specs.Planned.{sites_of}
 use Rattle.homeo_plan.specs.Table.{Row, table, row_at}
-use Rattle.homeo_plan.specs.Template.{shifted}
 use Rattle.homeo_split.specs.CanExec.{run_limit, can_exec}
 use Rattle.homeo_build.specs.Key.{definitions}
 use Rattle.homeo_build.specs.Plan.{residual_at}

@@ -1,5 +1,5 @@
 -- The form of each call marks the row of the call's site.
-use Rattle.std.proofs.Common.{map, ap, arith}
+use Rattle.std.proofs.Common.{map, arith}
 use Rattle.std.proofs.lemmas.List.{length-map}
 use Rattle.homeo_syntax.specs.LowView.{plain_lcommand}
 use Rattle.homeo_syntax.specs.SourceView.{plain_workload}
