@@ -3,5 +3,5 @@ use Rattle.homeo_syntax.specs.SourceView.{plain_workload}
 use Rattle.homeo_ground.specs.Grounding.{IsCalled}
 use Rattle.homeo_build.proofs.compile.compile_parts.Goals as goal
 
-pub forms_of-requires-clause-called : goal.transform_all-requires-clause-called
+pub forms_of-requires-clause-called : goal.forms_of-requires-clause-called
 forms_of-requires-clause-called c = subst (All (IsCalled (plain_workload c.args.w.now))) (sym c.calls-grounds.ensures) c.in_ok-calls.ensures.called
