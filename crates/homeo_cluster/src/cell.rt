@@ -5,8 +5,8 @@ ghost use Rattle.homeo_plan.specs.Planned.{sites_of};
 ghost use Rattle.homeo_build.specs.Plan.{IsObjectPlan};
 
 use crate::naming::ClusterNaming;
-use homeo_outline::ObjectPlan;
 use homeo_notes::Holder;
+use homeo_outline::ObjectPlan;
 use homeo_site::Site;
 use std::marker::Model;
 

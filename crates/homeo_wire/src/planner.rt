@@ -11,8 +11,8 @@ ghost use Rattle.homeo_wire.specs.inner.Planning.{IsPlan};
 
 use homeo_build::Compiled;
 use homeo_build::treaties::{plan_after, plan_at};
-use homeo_outline::ObjectPlan;
 use homeo_meaning::Database;
+use homeo_outline::ObjectPlan;
 use homeo_site::SiteStart;
 use homeo_syntax::Memory;
 use std::alloc::Global;
