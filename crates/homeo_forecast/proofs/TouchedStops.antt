@@ -12,8 +12,9 @@ use Rattle.homeo_plan.specs.Joined.{Deltas}
 use Rattle.homeo_plan.specs.Linear.{delta_of}
 use Rattle.homeo_plan.specs.Template.{Clause, Template}
 use Rattle.homeo_plan.specs.Treaty.{site_sum, KeepsFreezes}
+use Rattle.homeo_outline.specs.Numbers.{numbers_where}
 use Rattle.homeo_effect.specs.Key.{definitions as effect_definitions}
-use Rattle.homeo_effect.specs.Touched.{numbers_where, is_touched, is_among, touched_clauses, touched_freezes}
+use Rattle.homeo_effect.specs.Touched.{is_touched, is_among, touched_clauses, touched_freezes}
 use Rattle.homeo_forecast.specs.Key.{definitions}
 use Rattle.homeo_forecast.specs.Peaks.{Stop, Spent, Frozen, peak, peaks, PeaksFit, frozen_from, stop_from, first_stop}
 use Rattle.homeo_forecast.specs.Visits.{Visit}
