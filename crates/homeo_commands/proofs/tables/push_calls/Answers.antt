@@ -36,8 +36,8 @@ loop-number-init c =
       counted = subst (All IsCounted) (sym none) (All-nil IsCounted);
     }
 
-pub command-command-requires : goal.command-command-requires
-command-command-requires c = call_below (plain_workload c.args.c.now) c.calls-calls.result.now c.loop-number.number c.calls-calls.ensures c.loop-number-test.true
+pub command-requires : goal.command-requires
+command-requires c = call_below (plain_workload c.args.c.now) c.calls-calls.result.now c.loop-number.number c.calls-calls.ensures c.loop-number-test.true
 
 pub loop-number-preserved : goal.loop-number-preserved
 unfolding print_definitions
