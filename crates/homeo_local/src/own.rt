@@ -1,0 +1,102 @@
+//! The values that a run at a site reads and changes.
+
+ghost use Rattle.std.specs.Prelude.{◌≡◌, ◌<◌, true, length, OnOk};
+ghost use Rattle.homeo_meaning.specs.LowMeaning.{TempAt, BaseAt, location_of, put};
+ghost use Rattle.homeo_split.specs.Shape.{has_place};
+ghost use Rattle.homeo_local.specs.OwnValues.{own_shape};
+ghost use Rattle.homeo_local.specs.inner.Own.{plain_own, Keeps, StaysOrFits};
+
+use homeo_meaning::padded::{item_or, put};
+use homeo_split::Reads;
+use homeo_syntax::{Memory, SplitName, Temp};
+
+/// The base, the site's deltas, the temporaries, named and fresh, and the objects that were written, in order.
+///
+/// An object is its base and its delta. Their sum wraps, and so does what a write takes off: a run begins with sums that fit, and
+/// what is written fits, so the sum is the object's value whatever its delta is, and nothing has to be known of deltas on the way.
+#[derive(Drop)]
+pub(crate) struct Own<'a> {
+    pub(crate) base: &'a [i64],
+    pub(crate) deltas: Vec<i64>,
+    pub(crate) named: Vec<i64>,
+    pub(crate) fresh: Vec<i64>,
+    pub(crate) written: Vec<u32>,
+}
+
+impl Reads for Own<'_> {
+    ghost use Rattle.std.specs.Prelude.{◌≡◌};
+    ghost use Rattle.homeo_meaning.specs.LowMeaning.{TempAt, location_of};
+    ghost use Rattle.homeo_local.specs.inner.Own.{plain_own};
+
+    ghost values = { λ o. plain_own o };
+
+    #[tactic(auto, unfolding(crate::specs::Key::definitions))]
+    fn temp(&self, t: Temp) -> i64 {
+        match t {
+            Temp::Named(n) => item_or(self.named.as_slice(), n as usize, 0),
+            Temp::Fresh(n) => item_or(self.fresh.as_slice(), n as usize, 0),
+        }
+    }
+
+    #[tactic(auto, unfolding(crate::specs::Key::definitions, homeo_meaning::specs::Key::definitions))]
+    fn read(&self, x: SplitName) -> i64 {
+        match x {
+            SplitName::Whole(object) => self.object(object as usize),
+            SplitName::Base(object) => self.object(object as usize),
+            SplitName::Delta { .. } => 0,
+        }
+    }
+}
+
+impl Own<'_> {
+    /// The value of an object.
+    fn object(&self, x: usize) -> i64
+        ensures { result ≡ plain_own self.now (BaseAt x) }
+    {
+        item_or(self.base, x, 0).wrapping_add(item_or(self.deltas.as_slice(), x, 0))
+    }
+
+    /// Sets a temporary.
+    pub(crate) fn assign(&mut self, t: Temp, v: i64) -> Result<(), Memory>
+        ensures base { self.new.base ≡ self.old.base }
+        ensures deltas { self.new.deltas ≡ self.old.deltas }
+        ensures written { self.new.written ≡ self.old.written }
+        ensures set { OnOk result (plain_own self.new ≡ put (plain_own self.old) (TempAt t) v) }
+    {
+        match t {
+            Temp::Named(n) => put(&mut self.named, n as usize, v, 0),
+            Temp::Fresh(n) => put(&mut self.fresh, n as usize, v, 0),
+        }
+    }
+
+    /// Sets a name that is there.
+    pub(crate) fn write(&mut self, x: SplitName, v: i64) -> Result<(), Memory>
+        requires { has_place (own_shape (length self.old.deltas.items)) x ≡ true }
+        ensures base { self.new.base ≡ self.old.base }
+        ensures count { length self.new.deltas.items ≡ length self.old.deltas.items }
+        ensures set { OnOk result (plain_own self.new ≡ put (plain_own self.old) (location_of x) v) }
+        ensures keeps { OnOk result (Keeps self.old self.new) }
+        ensures fits { OnOk result (StaysOrFits self.old self.new) }
+    {
+        match x {
+            SplitName::Whole(object) => self.set_object(object, v),
+            SplitName::Base(object) => self.set_object(object, v),
+            // (there is no such place)
+            SplitName::Delta { .. } => Ok(()),
+        }
+    }
+
+    /// Sets an object that is there.
+    fn set_object(&mut self, x: u32, v: i64) -> Result<(), Memory>
+        requires { x < length self.old.deltas.items }
+        ensures base { self.new.base ≡ self.old.base }
+        ensures count { length self.new.deltas.items ≡ length self.old.deltas.items }
+        ensures set { OnOk result (plain_own self.new ≡ put (plain_own self.old) (BaseAt x) v) }
+        ensures keeps { OnOk result (Keeps self.old self.new) }
+        ensures fits { OnOk result (StaysOrFits self.old self.new) }
+    {
+        self.written.push(x)?;
+        self.deltas[x as usize] = v.wrapping_sub(item_or(self.base, x as usize, 0));
+        Ok(())
+    }
+}
