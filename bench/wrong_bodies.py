@@ -31,6 +31,7 @@ INNER = {
     "homeo_size": [],
     "homeo_desugar": [],
     "homeo_split": [],
+    "homeo_local": [],
     "homeo_outline": [],
     "homeo_delta": [],
     "homeo_joint": [],
