@@ -262,6 +262,18 @@ pub record FormHere (w : s.Workload) (fs : List Command) (ns : List ℕ) (i : �
   pub below : slice_index_or ns i 0 < length fs
   pub at : slice_get fs (slice_index_or ns i 0) ≡ Some (ground_form w g)
 
+-- the form of a ground call by its number
+pub form_of_ground :
+    (w : s.Workload) (fs : List Command) (ns : List ℕ) (i : ℕ) (g : Ground) → AreForms w fs ns → i < length (grounds w) →
+    FormHere w fs ns i (get_or (grounds w) i g)
+form_of_ground w fs ns i g forms within =
+    let at = have_at w fs (grounds w) ns i g forms.placed within in
+    record {
+      within = omega (arith, have_count w fs (grounds w) ns forms.placed, within);
+      below = placed_below fs (slice_index_or ns i 0) (ground_form w (get_or (grounds w) i g)) at;
+      at = at;
+    }
+
 pub form_here :
     (w : s.Workload) (fs : List Command) (ns : List ℕ) (calls : List GroundCall) (i : ℕ) (call : GroundCall) → AreForms w fs ns →
     map plain_ground calls ≡ grounds w → i < length calls → call ≡ get_or calls i call → FormHere w fs ns i (plain_ground call)

@@ -10,6 +10,7 @@ ghost use Rattle.homeo_ground.specs.Grounding.{grounding};
 ghost use Rattle.homeo_plan.specs.PlanView.{plain_clause};
 ghost use Rattle.homeo_plan.specs.Planned.{sites_of, planned, transformed};
 ghost use Rattle.homeo_plan.specs.Shares.{takes_part};
+ghost use Rattle.homeo_plan.specs.Template.{PlannedCall};
 ghost use Rattle.homeo_follow.specs.Named.{named};
 ghost use Rattle.homeo_build.specs.Forms.{AreForms};
 ghost use Rattle.homeo_build.specs.Written.{AreWritten};
@@ -117,6 +118,14 @@ impl Compiled {
         ensures names { map (λ ns. ns.items) result.now.names.items ≡ map named (map plain_lcommand result.now.forms.items) }
     {
         &self.forms
+    }
+
+    /// Lends the L form of the ground call of this number, below that of `calls`: its command over whole objects.
+    pub fn form(&self, number: usize) -> &LCommand
+        requires { number < length (grounds (plain_workload self.now)) }
+        ensures { (g : PlannedCall) → slice_get (planned (plain_workload self.now)) number ≡ Some g → plain_lcommand result.now ≡ g.command }
+    {
+        self.forms().form(number)
     }
 
     /// The transformed command of the ground call of this number, below that of `calls`: the delta transform, at the call's site,

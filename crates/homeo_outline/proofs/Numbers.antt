@@ -49,7 +49,7 @@ none_below test n first (x ∷ xs) h = go (test x) (none_below test n (suc first
     go true later = let apart : (n == first) ≡ false = grind (arith, nat_tests, h) in ap₂ ◌||◌ apart later
     go false later = later
 
-numbered : {X : Type 0} (test : X → Bool) (first m : ℕ) (xs : List X) (d : X) → m < length xs → has (first + m) (numbers_where test first xs) ≡ test (get_or xs m d)
+pub numbered : {X : Type 0} (test : X → Bool) (first m : ℕ) (xs : List X) (d : X) → m < length xs → has (first + m) (numbers_where test first xs) ≡ test (get_or xs m d)
 numbered test first m [] d h = absurd (omega (arith, h))
 numbered test first zero (x ∷ xs) d h = ap (λ n. has n (numbers_where test first (x ∷ xs))) here ∙ go (test x)
   where

@@ -31,7 +31,7 @@ planned_here w [] n lt = absurd (omega arith)
 planned_here w (g ∷ gs) zero lt = refl
 planned_here w (g ∷ gs) (suc n) lt = planned_here w gs n (omega arith)
 
-planned_there :
+pub planned_there :
     (w : s.Workload) (call : CallId) (n : ℕ) → n < length (grounds w) → slice_get (grounds w) n ≡ ground_of w call →
     slice_get (planned w) n ≡ Some (planned_at w call)
 unfolding plan_definitions nothing

@@ -1,25 +1,23 @@
 -- What contracts see of a site, from what its parts hold.
-use Rattle.std.proofs.Common.{◌≡◌, ℕ, List, [], length, map, replicate, ℤ, pos, All, refl, sym, ap, ◌∙◌, subst, arith}
+use Rattle.std.proofs.Common.{◌≡◌, ℕ, false, List, [], length, map, replicate, ℤ, All, refl, sym, ap, ◌∙◌, subst, arith}
 use Rattle.std.proofs.lemmas.List.Elements.{All-replicate}
 use Rattle.homeo_syntax.specs.Listed.{Listed}
 use Rattle.homeo_syntax.specs.SourceView.{plain_workload}
 use Rattle.homeo_meaning.specs.declared.call.CallId.{CallId}
 use Rattle.homeo_meaning.specs.Serial.{values_of}
-use Rattle.homeo_plan.specs.Planned.{template_at}
-use Rattle.homeo_effect.specs.Counts.{assignment_count, print_count}
-use Rattle.homeo_effect.specs.Touched.{written, touched_clauses, touched_freezes}
+use Rattle.homeo_effect.specs.Touched.{written}
 use Rattle.homeo_history.specs.Key.{definitions as history_definitions}
 use Rattle.homeo_history.specs.HistoryView.{plain_entry, plain_segment}
 use Rattle.homeo_history.specs.declared.history.Entry.{Entry}
 use Rattle.homeo_history.specs.declared.history.Segment.{Segment}
 use Rattle.homeo_site.specs.Key.{definitions}
-use Rattle.homeo_site.specs.Attempts.{step_commands, IsRoom, IsEmptyCopy}
-use Rattle.homeo_site.specs.OwnCalls.{RunsAs}
-use Rattle.homeo_site.specs.SiteState.{SiteHolds, begun}
+use Rattle.homeo_site.specs.Attempts.{IsRoom, IsEmptyCopy}
+use Rattle.homeo_outline.specs.Numbers.{has}
+use Rattle.homeo_site.specs.SiteState.{SiteHolds, begun, step_prints, step_deltas}
+use Rattle.homeo_site.specs.inner.Ready.{with_deltas}
 use Rattle.homeo_site.specs.SiteView.{StartValue, SiteValue}
 use Rattle.homeo_site.specs.declared.attempts.Room.{Room}
 use Rattle.homeo_site.specs.Standing.{IsStart, IsSite, state_in}
-use Rattle.homeo_site.specs.TreatyPart.{part_at}
 use Rattle.homeo_site.proofs.SitesHold.{begun_holds}
 
 -- the value of a site with these parts
@@ -80,37 +78,22 @@ spare_changed v y x s t u own same is =
 
 -- ---- room
 pub room_is :
-    (v : StartValue) (x : List ℤ) (s : Segment) (u : SiteValue) (call : CallId) (r : Room) (temporaries prints : ℕ) → value_in v x s ≡ u →
-    temporaries ≡ assignment_count (step_commands (plain_workload v.work) (state_in v x s) call) →
-    prints ≡ print_count (step_commands (plain_workload v.work) (state_in v x s) call) → r.call ≡ call →
-    RunsAs (values_of v.base) v.number (length v.base) (step_commands (plain_workload v.work) (state_in v x s) call) r.own.value.program →
-    r.treaty.value ≡ part_at (plain_workload v.work) v.base v.number → r.deltas.items ≡ x →
-    r.prints ≡ record { items = []; spare = prints } → r.temporaries.items ≡ replicate temporaries (pos 0) →
-    r.own.value.clauses.items ≡ touched_clauses (written (step_commands (plain_workload v.work) (state_in v x s) call)) (template_at (plain_workload v.work) v.base) →
-    r.own.value.freezes.items ≡ touched_freezes (written (step_commands (plain_workload v.work) (state_in v x s) call)) (template_at (plain_workload v.work) v.base) →
-    IsRoom (plain_workload u.work) u.state call r
-room_is v x s u call r temporaries prints is assigned printed name own treaty deltas empty zeros clauses freezes =
+    (v : StartValue) (x : List ℤ) (s : Segment) (u : SiteValue) (call : CallId) (r : Room) → value_in v x s ≡ u → r.call ≡ call →
+    r.deltas.items ≡ step_deltas (plain_workload v.work) (with_deltas v x) call →
+    r.prints.items ≡ step_prints (plain_workload v.work) (with_deltas v x) call →
+    ((n : ℕ) → has n r.written.items ≡ false → values_of r.deltas.items n ≡ values_of x n) → IsRoom (plain_workload u.work) u.state call r
+unfolding definitions
+room_is v x s u call r is name deltas prints written =
     subst (λ (y : SiteValue). IsRoom (plain_workload y.work) y.state call r) is
-    (record {
-      call = name;
-      own = own;
-      treaty = treaty;
-      deltas = deltas;
-      prints = ap (λ (l : Listed ℤ). l.items) empty;
-      temporaries = zeros ∙ ap (λ n. replicate n (pos 0)) assigned;
-      spare =
-          let spare : r.prints.spare ≡ prints = ap (λ (l : Listed ℤ). l.spare) empty in
-          omega (arith, spare, printed);
-      clauses = clauses;
-      freezes = freezes;
-    })
+    (record { call = name; deltas = deltas; prints = prints; written = written })
 
 pub copies_are :
-    (v : StartValue) (x : List ℤ) (s : Segment) (u : SiteValue) (call : CallId) (lists : List (Listed ℤ)) (copies prints : ℕ) →
-    value_in v x s ≡ u → prints ≡ print_count (step_commands (plain_workload v.work) (state_in v x s) call) →
-    lists ≡ replicate copies (record { items = []; spare = prints }) → All (IsEmptyCopy (plain_workload u.work) u.state call) lists
+    (v : StartValue) (x : List ℤ) (s : Segment) (u : SiteValue) (call : CallId) (lists : List (Listed ℤ)) (copies : ℕ) (prints : List ℤ) →
+    value_in v x s ≡ u → prints ≡ step_prints (plain_workload v.work) (with_deltas v x) call →
+    lists ≡ replicate copies (record { items = []; spare = length prints }) → All (IsEmptyCopy (plain_workload u.work) u.state call) lists
+unfolding definitions
 copies_are v x s u call lists copies prints is printed e =
     subst (λ (y : SiteValue). All (IsEmptyCopy (plain_workload y.work) y.state call) lists) is
     (subst (λ ls. All (IsEmptyCopy (plain_workload v.work) (state_in v x s) call) ls) (sym e)
-    (All-replicate (IsEmptyCopy (plain_workload v.work) (state_in v x s) call) copies (record { items = []; spare = prints })
-    (record { empty = refl; spare = omega (arith, printed) })))
+    (All-replicate (IsEmptyCopy (plain_workload v.work) (state_in v x s) call) copies (record { items = []; spare = length prints })
+    (record { empty = refl; spare = omega (arith, ap length printed) })))

@@ -1,5 +1,7 @@
+pub mod Earliest
 pub mod Failures
 pub mod OwnRound
 pub mod Parts
+pub mod PlanFailures
 pub mod Ready
 pub mod RunsTaken

@@ -1,12 +1,8 @@
-//! What attempts of calls come to, and the room that they take.
+//! What attempts of calls come to, and what is found before.
 
-use crate::own_calls::OwnCall;
-use crate::own_treaty::OwnTreaty;
 use homeo_meaning::{CallId, Database};
 use homeo_plan::Broken;
-use homeo_syntax::{Numbers, Prints};
-use std::alloc::Global;
-use std::sync::Arc;
+use homeo_syntax::Prints;
 
 /// What the attempt of a call at its site comes to (Roy et al., SIGMOD 2015).
 #[derive(Drop)]
@@ -27,18 +23,14 @@ pub struct Change {
     pub prints: Prints,
 }
 
-/// Room for one attempt of a call, so that the attempt itself takes no memory.
+/// A call's local step, found and not yet made, with all the memory that making it needs.
 #[derive(Drop)]
 pub struct Room {
     pub call: CallId,
-    /// What the site runs for it, and what of the treaty that touches.
-    pub own: Arc<OwnCall, Global>,
-    /// The site's part of the round's treaty.
-    pub treaty: Arc<OwnTreaty, Global>,
-    /// The site's deltas before the call, one for each object.
+    /// The site's deltas after the call, one for each object.
     pub deltas: Database,
-    /// No prints, with room for those of the call.
+    /// The objects that the call wrote, by number: rising, each once.
+    pub written: homeo_syntax::List<u32>,
+    /// What the call prints, in order.
     pub prints: Prints,
-    /// A 0 for each number that the call keeps on the way.
-    pub temporaries: Numbers,
 }

@@ -13,6 +13,5 @@ mod start;
 
 pub use attempts::{Change, Outcome, Room};
 pub use own_calls::{OwnCall, OwnCalls};
-pub use own_treaty::OwnTreaty;
 pub use site::Site;
 pub use start::SiteStart;

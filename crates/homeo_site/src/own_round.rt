@@ -1,42 +1,34 @@
 //! What a site keeps of a round besides its deltas.
 
-ghost use Rattle.std.specs.Prelude.{◌≡◌, ◌<◌, List, ℤ, IfOk};
+ghost use Rattle.std.specs.Prelude.{◌≡◌, ◌<◌, ℕ, false, IfOk};
 ghost use Rattle.homeo_syntax.specs.SourceView.{plain_workload};
-ghost use Rattle.homeo_plan.specs.Planned.{sites_of, planned_at, policy};
-ghost use Rattle.homeo_outline.specs.ObjectPlan.{template_in, config_in};
+ghost use Rattle.homeo_meaning.specs.Serial.{values_of};
+ghost use Rattle.homeo_plan.specs.Planned.{sites_of, policy};
+ghost use Rattle.homeo_outline.specs.Numbers.{has};
+ghost use Rattle.homeo_outline.specs.ObjectPlan.{config_in};
 ghost use Rattle.homeo_build.specs.Plan.{IsObjectPlan};
 ghost use Rattle.homeo_history.specs.Legal.{IsCallAt};
-ghost use Rattle.homeo_site.specs.OwnCalls.{IsOwnCall, AreOwnCalls};
-ghost use Rattle.homeo_site.specs.TreatyPart.{part_at};
-ghost use Rattle.homeo_site.specs.inner.OwnRound.{AreParts};
-ghost use Rattle.homeo_site.specs.inner.Parts.{CanKeep};
+ghost use Rattle.homeo_site.specs.SiteState.{step_prints, step_deltas, step_finding};
+ghost use Rattle.homeo_site.specs.inner.Ready.{IsReady, with_deltas, IsAfterStep};
 
-use crate::own_calls::{OwnCall, OwnCalls};
-use crate::own_treaty::OwnTreaty;
+use crate::own_treaty::first_failure;
 use homeo_build::Compiled;
+use homeo_local::{LocalStep, local_step};
 use homeo_meaning::CallId;
 use homeo_outline::ObjectPlan;
+use homeo_plan::Broken;
 use homeo_syntax::Memory;
 use std::alloc::Global;
 use std::marker::Model;
 use std::sync::Arc;
 
-/// What a site attempts calls by: its part of the treaty, and what it runs for each ground call that its clients attempted.
-#[derive(Drop)]
-pub(crate) struct OwnParts {
-    treaty: Arc<OwnTreaty, Global>,
-    calls: OwnCalls,
-}
-
-/// A site's part of a round: what all sites share, the numbers of the site and of the round, and, from the first attempt of a call
-/// on, what the site attempts calls by.
+/// A site's part of a round: what all sites share, and the numbers of the site and of the round.
 #[derive(Drop)]
 pub(crate) struct OwnRound {
     compiled: Arc<Compiled, Global>,
     plan: Arc<ObjectPlan, Global>,
     site: u32,
     round: u64,
-    parts: Option<OwnParts>,
 }
 
 impl Model for OwnRound {
@@ -57,32 +49,7 @@ impl Model for OwnRound {
       base = r.plan.value.base.items;
     } };
 
-    ghost invariant = { λ r. IsOwnRound (plain_workload r.compiled.value) r.plan.value r.site r.parts };
-}
-
-impl OwnParts {
-    /// The site's part of the plan's treaty, and nothing yet for any call.
-    fn new(
-        alloc: Global,
-        compiled: &Compiled,
-        plan: &Arc<ObjectPlan, Global>,
-        site: u32,
-    ) -> Result<OwnParts, Memory>
-        requires { CanKeep plan.now.value site }
-        ensures treaty { IfOk result (λ o. o.treaty.value ≡ record {
-          site = site;
-          template = template_in plan.now.value;
-          config = config_in plan.now.value;
-        }) }
-        ensures calls { (base : List ℤ) → IfOk result (λ o. AreOwnCalls (plain_workload compiled.now) base o.calls) }
-    {
-        let treaty = OwnTreaty::of(plan, site)?;
-        let calls = OwnCalls::new(alloc, compiled)?;
-        Ok(OwnParts {
-            treaty: Arc::new(alloc, treaty)?,
-            calls,
-        })
-    }
+    ghost invariant = { λ r. IsOwnRound (plain_workload r.compiled.value) r.plan.value r.site };
 }
 
 impl OwnRound {
@@ -110,7 +77,6 @@ impl OwnRound {
             plan: Arc::try_clone(plan)?,
             site,
             round,
-            parts: None,
         })
     }
 
@@ -133,37 +99,32 @@ impl OwnRound {
         &self.plan
     }
 
-    /// Takes the parts out, which are made if there are none.
-    fn take_parts(&mut self, alloc: Global) -> Result<OwnParts, Memory>
-        ensures same { self.new ≡ self.old }
-        ensures parts { IfOk result (AreParts (plain_workload self.old.work) self.old.base self.old.number) }
-    {
-        match self.parts.take() {
-            Some(parts) => Ok(parts),
-            None => OwnParts::new(alloc, &self.compiled, &self.plan, self.site),
-        }
-    }
-
-    /// What the site runs for a call of one of its clients, and its part of the treaty. What it runs is made at the first attempt of
-    /// its ground call in the round, and the part of the treaty at the first attempt of any call.
-    pub(crate) fn own_call(
-        &mut self,
+    /// The local step of a call of one of the site's clients, from these deltas of the site: its L form is run on base plus deltas.
+    pub(crate) fn step(
+        &self,
         alloc: Global,
         call: CallId,
-    ) -> Result<(Arc<OwnCall, Global>, Arc<OwnTreaty, Global>), Memory>
-        requires { IsCallAt (plain_workload self.old.work) self.old.number call }
-        ensures same { self.new ≡ self.old }
-        ensures call { let w = plain_workload self.old.work in
-            IfOk result (λ r. IsOwnCall w self.old.base (planned_at w call) r.0.value) }
-        ensures treaty { IfOk result (λ r. r.1.value ≡ part_at (plain_workload self.old.work) self.old.base self.old.number) }
+        deltas: &[i64],
+    ) -> Result<LocalStep, Memory>
+        requires call { IsCallAt (plain_workload self.now.work) self.now.number call }
+        requires ready { IsReady (plain_workload self.now.work) (with_deltas self.now deltas.now) }
+        ensures prints { IfOk result (λ s. s.prints.items ≡ step_prints (plain_workload self.now.work) (with_deltas self.now deltas.now) call) }
+        ensures deltas { IfOk result (λ s. s.deltas.items ≡ step_deltas (plain_workload self.now.work) (with_deltas self.now deltas.now) call) }
+        ensures written { IfOk result (λ s. (n : ℕ) → has n s.written.items ≡ false →
+            values_of s.deltas.items n ≡ values_of deltas.now n) }
     {
-        let mut parts = self.take_parts(alloc)?;
-        let index = parts.treaty.index();
-        let own = parts
-            .calls
-            .get(alloc, &self.compiled, &self.plan.base, index, call);
-        let treaty = Arc::try_clone(&parts.treaty);
-        self.parts = Some(parts);
-        Ok((own?, treaty?))
+        let place = self.compiled.place(call) as usize;
+        let form = self.compiled.form(place);
+        local_step(alloc, form, self.plan.base.as_slice(), deltas)
+    }
+
+    /// What fails first of the site's treaty after a call's local step, where these are all objects that it wrote, and these the
+    /// deltas that it left.
+    pub(crate) fn failure(&self, written: &[u32], deltas: &[i64]) -> Option<Broken>
+        requires { IsAfterStep (plain_workload self.now.work) self.now written.now deltas.now }
+        ensures { (s : IsAfterStep (plain_workload self.now.work) self.now written.now deltas.now) →
+            result ≡ step_finding (plain_workload self.now.work) (with_deltas self.now s.before) s.call }
+    {
+        first_failure(&self.plan, self.site, written, deltas)
     }
 }

@@ -1,25 +1,42 @@
-//! A site's part of a treaty: the plan, and which clauses and freezes stand on each of the site's deltas.
+//! What of its treaty a site checks after a call: the clauses and freezes that stand on what the call wrote.
 
-ghost use Rattle.std.specs.Prelude.{◌≡◌, ◌+◌, ◌<◌, ◌≤◌, ◌+ℤ◌, ◌*ℤ◌, ◌≤ℤ◌, ℕ, pos, [], All, IsTrue, length, map, slice_index_or, IfOk, FitsSigned};
+ghost use Rattle.std.specs.Prelude.{◌≡◌, ◌+◌, ◌<◌, ◌≤◌, ◌+ℤ◌, ◌*ℤ◌, ◌≤ℤ◌, ℕ, pos, true, false, [], All, IsTrue, length, map, slice_index_or, FitsSigned};
 ghost use Rattle.std.specs.Int.{w128};
 ghost use Rattle.homeo_meaning.specs.Serial.{values_of};
 ghost use Rattle.homeo_plan.specs.Config.{HaveSlack};
+ghost use Rattle.homeo_plan.specs.Joined.{Deltas};
 ghost use Rattle.homeo_plan.specs.PlanView.{plain_config};
-ghost use Rattle.homeo_plan.specs.Treaty.{bound_at};
+ghost use Rattle.homeo_plan.specs.Treaty.{Treaty, bound_at, finding};
+ghost use Rattle.homeo_outline.specs.Numbers.{has};
 ghost use Rattle.homeo_outline.specs.ObjectPlan.{template_in, config_in, template_with};
-ghost use Rattle.homeo_site.specs.inner.Failures.{sum_failure, freeze_failure, first_of, first_failure, own_failure, own_freeze_failure};
+ghost use Rattle.homeo_site.specs.inner.Earliest.{IsEarliest, earlier};
+ghost use Rattle.homeo_site.specs.inner.Failures.{sum_failure, freeze_failure, own_failure, own_freeze_failure};
 ghost use Rattle.homeo_site.specs.inner.Parts.{own_term, CanKeep};
+ghost use Rattle.homeo_site.specs.inner.PlanFailures.{StandsOn, plan_failure};
 ghost use Rattle.homeo_site.specs.OwnTreaty.{own_sum, SumsFit, own_clauses};
 
 use homeo_config::even_bound;
-use homeo_effect::TreatyIndex;
 use homeo_meaning::padded::item_or;
 use homeo_outline::ObjectPlan;
 use homeo_plan::{Broken, Config, Delta, Term};
-use homeo_syntax::Memory;
-use std::alloc::Global;
-use std::marker::Model;
-use std::sync::Arc;
+
+/// The earlier of two failures, that of the lower number.
+#[tactic(auto, unfolding(crate::specs::Key::definitions))]
+fn earlier(found: Option<Broken>, next: Option<Broken>) -> Option<Broken>
+    ensures { result ≡ earlier found next }
+{
+    match (found, next) {
+        (None, _) => next,
+        (Some(_), None) => found,
+        (Some(a), Some(b)) => {
+            if b.clause < a.clause {
+                Some(b)
+            } else {
+                Some(a)
+            }
+        }
+    }
+}
 
 /// The given bound of a site in a clause, by the clause's number: 0 where there is none.
 fn bound_of(config: &Config, clause: usize, site: u32) -> i128
@@ -131,22 +148,21 @@ fn clause_failure(plan: &ObjectPlan, site: u32, number: u32, deltas: &[i64]) -> 
     sum_failure(number, sum, bound)
 }
 
-/// The first that fails of the clauses of these numbers in a plan, at a site with these deltas.
-fn first_clause(plan: &ObjectPlan, site: u32, numbers: &[u32], deltas: &[i64]) -> Option<Broken>
+/// What fails earliest of the clauses of these numbers in a plan, at a site with these deltas.
+fn earliest_clause(plan: &ObjectPlan, site: u32, numbers: &[u32], deltas: &[i64]) -> Option<Broken>
     requires keeps { CanKeep plan.now site }
     requires numbers { All (λ n. n < length (template_in plan.now).clauses) numbers.now }
     requires fit { All (λ c. SumsFit c.terms (values_of deltas.now))
         (own_clauses site (template_in plan.now).clauses (config_in plan.now)) }
-    ensures { result ≡ first_failure
-        (own_failure (own_clauses site (template_in plan.now).clauses (config_in plan.now)) (values_of deltas.now)) numbers.now }
+    ensures { IsEarliest (own_failure (own_clauses site (template_in plan.now).clauses (config_in plan.now)) (values_of deltas.now))
+        (λ n. has n numbers.now ≡ true) result }
 {
+    let mut found = None;
     for number in numbers {
         let failure = clause_failure(plan, site, *number, deltas);
-        if failure.is_some() {
-            return failure;
-        }
+        found = earlier(found, failure);
     }
-    None
+    found
 }
 
 /// What fails of a freeze of this number: a delta of the site that isn't 0.
@@ -166,8 +182,8 @@ fn freeze_failure(freeze: Delta, site: u32, number: u32, deltas: &[i64]) -> Opti
     }
 }
 
-/// The first that fails of the freezes of these numbers, where the first of all freezes has the given one.
-fn first_freeze(
+/// What fails earliest of the freezes of these numbers, where the first of all freezes has the given one.
+fn earliest_freeze(
     freezes: &[Delta],
     first: usize,
     numbers: &[u32],
@@ -175,97 +191,55 @@ fn first_freeze(
     deltas: &[i64],
 ) -> Option<Broken>
     requires { All (λ n. (first ≤ n) × (n < first + length freezes.now)) numbers.now }
-    ensures { result ≡ first_failure (own_freeze_failure first site freezes.now (values_of deltas.now)) numbers.now }
+    ensures { IsEarliest (own_freeze_failure first site freezes.now (values_of deltas.now)) (λ n. has n numbers.now ≡ true) result }
 {
+    let mut found = None;
     for number in numbers {
         let freeze = freezes[*number as usize - first];
         let failure = freeze_failure(freeze, site, *number, deltas);
-        if failure.is_some() {
-            return failure;
-        }
+        found = earlier(found, failure);
     }
-    None
+    found
 }
 
-/// A site's part of the treaty of a round: the plan that all sites share, and which clauses and freezes stand on each of the site's
-/// deltas.
-#[derive(Drop)]
-pub struct OwnTreaty {
+/// What fails earliest of the clauses and freezes of a plan that stand on an object, at a site with these deltas.
+fn failure_on(plan: &ObjectPlan, site: u32, object: u32, deltas: &[i64]) -> Option<Broken>
+    requires keeps { CanKeep plan.now site }
+    requires fit { All (λ c. SumsFit c.terms (values_of deltas.now))
+        (own_clauses site (template_in plan.now).clauses (config_in plan.now)) }
+    ensures { IsEarliest (plan_failure plan.now site (values_of deltas.now)) (StandsOn plan.now object) result }
+{
+    let outline = &*plan.outline;
+    let clause = earliest_clause(plan, site, outline.clauses_on(object), deltas);
+    let freeze = earliest_freeze(
+        outline.freezes(),
+        outline.terms().len(),
+        outline.freezes_on(object),
+        site,
+        deltas,
+    );
+    earlier(clause, freeze)
+}
+
+/// What fails first of a site's part of a plan's treaty, of which a site's deltas before a call kept all, where these objects are all
+/// that the call wrote. Only what stands on these is looked at.
+pub(crate) fn first_failure(
+    plan: &ObjectPlan,
     site: u32,
-    plan: Arc<ObjectPlan, Global>,
-    index: TreatyIndex,
-}
-
-impl Model for OwnTreaty {
-    ghost use Rattle.homeo_outline.specs.ObjectPlan.{template_in, config_in};
-    ghost use Rattle.homeo_site.specs.TreatyPart.{TreatyPart};
-    ghost use Rattle.homeo_site.specs.inner.Parts.{IsOwnTreaty};
-
-    ghost Value = { TreatyPart };
-
-    ghost view = { λ t. record {
-      site = t.site;
-      template = template_in t.plan.value;
-      config = config_in t.plan.value;
-    } };
-
-    ghost invariant = { λ t. IsOwnTreaty t.plan.value t.site t.index };
-}
-
-impl OwnTreaty {
-    /// The part of a site, from a round's plan. It takes no time, and no memory but the shares of the plan.
-    pub(crate) fn of(plan: &Arc<ObjectPlan, Global>, site: u32) -> Result<OwnTreaty, Memory>
-        requires { CanKeep plan.now.value site }
-        ensures { IfOk result (λ t. t ≡ record {
-          site = site;
-          template = template_in plan.now.value;
-          config = config_in plan.now.value;
-        }) }
-    {
-        let index = TreatyIndex::of(plan, site)?;
-        Ok(OwnTreaty {
-            site,
-            plan: Arc::try_clone(plan)?,
-            index,
-        })
+    written: &[u32],
+    deltas: &[i64],
+) -> Option<Broken>
+    requires keeps { CanKeep plan.now site }
+    requires fit { All (λ c. SumsFit c.terms (values_of deltas.now))
+        (own_clauses site (template_in plan.now).clauses (config_in plan.now)) }
+    ensures { (before : Deltas) → Treaty (template_in plan.now) (config_in plan.now) site before →
+        ((n : ℕ) → has n written.now ≡ false → values_of deltas.now n ≡ before n) →
+        result ≡ finding (template_in plan.now) (config_in plan.now) site (values_of deltas.now) }
+{
+    let mut found = None;
+    for object in written {
+        let failure = failure_on(plan, site, *object, deltas);
+        found = earlier(found, failure);
     }
-
-    /// Lends the index: of each delta of the site the clauses and freezes that stand on it.
-    pub(crate) fn index(&self) -> &TreatyIndex
-        ensures site { result.now.site ≡ self.now.site }
-        ensures template { result.now.template ≡ self.now.template }
-    {
-        &self.index
-    }
-
-    /// The first that fails of clauses and freezes of these numbers, where the site has these deltas.
-    pub(crate) fn first_failure(
-        &self,
-        clauses: &[u32],
-        freezes: &[u32],
-        deltas: &[i64],
-    ) -> Option<Broken>
-        requires clauses { All (λ n. n < length self.now.template.clauses) clauses.now }
-        requires freezes { let t = self.now.template in
-            All (λ n. (length t.clauses ≤ n) × (n < length t.clauses + length t.freezes)) freezes.now }
-        requires fit { All (λ c. SumsFit c.terms (values_of deltas.now))
-            (own_clauses self.now.site self.now.template.clauses self.now.config) }
-        ensures { let t = self.now.template in result ≡
-            first_of (first_failure (own_failure (own_clauses self.now.site t.clauses self.now.config) (values_of deltas.now)) clauses.now)
-            (first_failure (own_freeze_failure (length t.clauses) self.now.site t.freezes (values_of deltas.now)) freezes.now) }
-    {
-        let plan = &*self.plan;
-        let failure = first_clause(plan, self.site, clauses, deltas);
-        if failure.is_some() {
-            return failure;
-        }
-        let outline = &*plan.outline;
-        first_freeze(
-            outline.freezes(),
-            outline.terms().len(),
-            freezes,
-            self.site,
-            deltas,
-        )
-    }
+    found
 }

@@ -9,10 +9,11 @@ ghost use Rattle.homeo_site.specs.Attempts.{IsChange, IsOutcome, IsRoom, IsEmpty
 ghost use Rattle.homeo_site.specs.SiteState.{SiteHolds, after_local, begun};
 
 use crate::attempts::{Change, Outcome, Room};
-use crate::lists::{copy_to_all, empty_copies, empty_prints, zeros};
+use crate::lists::{copy_to_all, empty_copies};
 use crate::own_round::OwnRound;
 use crate::start::SiteStart;
 use homeo_history::{Entry, Segment};
+use homeo_local::LocalStep;
 use homeo_meaning::{CallId, Database};
 use homeo_outline::ObjectPlan;
 use homeo_syntax::{List, Memory, Prints};
@@ -126,13 +127,8 @@ impl Site {
         before.into_segment()
     }
 
-    /// Takes room for an attempt of a call, and for so many copies of its prints: all the memory that the attempt, a commit
-    /// of its change, and the copies need. In the room stands what the site runs for the call and which clauses and freezes that
-    /// touches, both made at the first attempt of its ground call in the round; and the site's part of the treaty. The call must be one
-    /// of a client of this site.
-    ///
-    /// The first room in a round makes the site's part of the treaty, in no time and no memory but its shares of the plan, and a place
-    /// for each ground call.
+    /// Finds the local step of a call on the site's present state, and takes room for so many copies of its prints: with that, an attempt
+    /// of the call, a commit of its change, and the copies need no memory. The call must be one of a client of this site.
     ///
     /// # Errors
     ///
@@ -150,28 +146,25 @@ impl Site {
         ensures copies { IfOk result (λ r. All (IsEmptyCopy (plain_workload self.old.work) self.old.state call) r.1.items) }
         ensures spare { OnOk result (1 ≤ self.new.spare) }
     {
-        let (own, treaty) = self.own.own_call(alloc, call)?;
-        let run = &*own;
-        let count = u64::from(run.program.prints);
-        let temporaries = zeros(alloc, run.program.temporaries as usize)?;
-        let deltas = Vec::from_slice(alloc, self.deltas.as_slice())?;
-        let prints = empty_prints(alloc, count)?;
-        let lists = empty_copies(alloc, copies, count)?;
+        let LocalStep {
+            deltas,
+            written,
+            prints,
+        } = self.own.step(alloc, call, self.deltas.as_slice())?;
+        let lists = empty_copies(alloc, copies, prints.as_slice().len() as u64)?;
         self.segment.entries.reserve(1)?;
         let room = Room {
             call,
-            own,
-            treaty,
-            deltas: List::from_vec(deltas),
+            deltas,
+            written,
             prints,
-            temporaries,
         };
         Ok((room, lists))
     }
 
-    /// Runs a call of one of the site's clients on the site's deltas, in its room, and says whether the site's treaty holds
-    /// afterwards: with the change, or with what fails first, of all clauses and then of all freezes. Where it holds, the
-    /// prints are copied into each list of `answers`. It takes no memory, and changes nothing of the site.
+    /// Says whether the site's treaty holds after a call of one of the site's clients, whose local step is in its room: with the
+    /// change, or with what fails first, of all clauses and then of all freezes. Where it holds, the prints are copied into each
+    /// list of `answers`. It takes no memory, and changes nothing of the site.
     ///
     /// The room, the answers and the site's spare must be as `room` leaves them for this call on the site's present state.
     pub fn attempt_in(&self, call: CallId, room: Room, answers: &mut List<Prints>) -> Outcome
@@ -183,29 +176,14 @@ impl Site {
         ensures count { length answers.new.items ≡ length answers.old.items }
         ensures answers { All (λ copy. copy.items ≡ copied_prints result) answers.new.items }
     {
-        // what the site keeps holds
-        let _round = &self.own;
         let Room {
             call: _,
-            own,
-            treaty,
             deltas,
-            mut prints,
-            temporaries,
+            written,
+            prints,
         } = room;
-        let mut deltas = deltas.into_vec();
-        let mut temporaries = temporaries.into_vec();
-        let run = &*own;
-        run.program.run(
-            deltas.as_mut_slice(),
-            temporaries.as_mut_slice(),
-            &mut prints,
-        );
-        let failure = treaty.first_failure(
-            run.clauses.as_slice(),
-            run.freezes.as_slice(),
-            deltas.as_slice(),
-        );
+        let deltas = deltas.into_vec();
+        let failure = self.own.failure(written.as_slice(), deltas.as_slice());
         match failure {
             Some(broken) => Outcome::Breaks(broken),
             None => {

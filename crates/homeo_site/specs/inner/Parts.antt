@@ -1,13 +1,12 @@
 -- What a site keeps of a treaty in the round of a plan.
-use Rattle.std.specs.Prelude.{◌≡◌, ℕ, ◌<◌}
+use Rattle.std.specs.Prelude.{ℕ, ◌<◌}
 use Rattle.homeo_meaning.specs.Small.{IsSmall}
 use Rattle.homeo_plan.specs.declared.forms.Term.{Term}
 use Rattle.homeo_plan.specs.Config.{HaveSlack}
 use Rattle.homeo_plan.specs.Each.{Each}
 use Rattle.homeo_plan.specs.Limit.{form_limit}
-use Rattle.homeo_outline.specs.ObjectPlan.{template_in, template_with}
+use Rattle.homeo_outline.specs.ObjectPlan.{template_with}
 use Rattle.homeo_outline.specs.declared.plan.ObjectPlan.{ObjectPlan}
-use Rattle.homeo_effect.specs.Indexed.{Indexed}
 use Rattle.homeo_site.specs.Key.{definitions}
 use Rattle.homeo_site.specs.OwnTreaty.{OwnTerm}
 
@@ -21,9 +20,3 @@ pub record CanKeep (p : ObjectPlan) (i : ℕ) : Type 0 where
   pub site : i < p.outline.value.sites
   pub not_negative : HaveSlack (template_with p.outline.value p.slacks.items).clauses
   pub small : Each (λ c. IsSmall form_limit c.slack) (template_with p.outline.value p.slacks.items).clauses
-
--- site i can keep its part of the plan's treaty, and the index is over this treaty
-pub record IsOwnTreaty (p : ObjectPlan) (i : ℕ) (x : Indexed) : Type 0 where
-  pub keeps : CanKeep p i
-  pub index_site : x.site ≡ i
-  pub index_template : x.template ≡ template_in p

@@ -1,12 +1,15 @@
 -- What a site's deltas have to be for a call's local step.
-use Rattle.std.specs.Prelude.{◌≡◌, ◌<◌, List, [], length, ℤ, ◌+ℤ◌}
+use Rattle.std.specs.Prelude.{◌≡◌, ℕ, ◌<◌, false, List, [], length, ℤ, ◌+ℤ◌}
 use Rattle.homeo_syntax.specs.Source as s
 use Rattle.homeo_meaning.specs.Bounds.{AllWithin, IsWithin}
 use Rattle.homeo_meaning.specs.Schema.{schema_of}
 use Rattle.homeo_meaning.specs.Serial.{values_of}
+use Rattle.homeo_meaning.specs.declared.call.CallId.{CallId}
 use Rattle.homeo_plan.specs.Planned.{sites_of}
+use Rattle.homeo_history.specs.Legal.{IsCallAt}
 use Rattle.homeo_history.specs.Replayed.{MeetsTreaty}
-use Rattle.homeo_site.specs.SiteState.{SiteState}
+use Rattle.homeo_outline.specs.Numbers.{has}
+use Rattle.homeo_site.specs.SiteState.{SiteState, step_deltas}
 use Rattle.homeo_site.specs.SiteView.{StartValue}
 
 -- they meet the site's treaty, and base plus deltas is within bounds
@@ -20,3 +23,12 @@ pub record IsReady (w : s.Workload) (x : SiteState) : Type 0 where
 -- a site with these deltas in a round, of whose entries nothing is said
 abbrev pub with_deltas : StartValue → List ℤ → SiteState
 with_deltas v x = record { number = v.number; round = v.round; base = v.base; deltas = x; segment = [] }
+
+-- these deltas are those after a call's local step, from deltas that a site may have there, and these objects all that it wrote
+pub record IsAfterStep (w : s.Workload) (v : StartValue) (written : List ℕ) (deltas : List ℤ) : Type 0 where
+  pub call : CallId
+  pub before : List ℤ
+  pub at : IsCallAt w v.number call
+  pub ready : IsReady w (with_deltas v before)
+  pub left : deltas ≡ step_deltas w (with_deltas v before) call
+  pub others : (n : ℕ) → has n written ≡ false → values_of deltas n ≡ values_of before n

@@ -1,49 +1,49 @@
--- The segment keeps its entries, and there is room for what the call keeps and prints.
-use Rattle.std.proofs.Common.{refl, ap, ◌∙◌}
-use Rattle.homeo_site.specs.Key.{definitions}
-use Rattle.homeo_site.specs.declared.own_calls.OwnCall.{OwnCall}
-use Rattle.homeo_site.proofs.SiteRooms.{room_runs, room_clauses, room_freezes}
+-- The segment keeps its entries, and the room has what the call's local step makes of the site.
+use Rattle.std.proofs.Common.{List, [], length, replicate, ℤ, refl, ap, ◌∙◌}
+use Rattle.homeo_syntax.specs.SourceView.{plain_workload}
+use Rattle.homeo_meaning.specs.Serial.{values_of}
+use Rattle.homeo_site.specs.SiteState.{step_prints, step_deltas}
+use Rattle.homeo_site.specs.SiteView.{SiteValue}
+use Rattle.homeo_site.specs.inner.Ready.{with_deltas}
+use Rattle.homeo_site.proofs.SiteAttempts.{ready_here, call_here}
 use Rattle.homeo_site.proofs.SiteViews.{still_site, spare_changed, room_is, copies_are}
 use Rattle.homeo_site.proofs.site.Site.room.Goals as goal
 
-pub invariant_of-self-in_err-reserve : goal.invariant_of-self-in_err-reserve
-invariant_of-self-in_err-reserve c =
-    still_site c.self.inside.own c.own_call.new.self c.self.inside.deltas.items c.self.inside.segment _ c.self.invariant c.in_ok-own.ensures.same
-    (ap (λ l. l.items) c.in_err-reserve.ensures.err)
+pub step-requires-clause-call : goal.step-requires-clause-call
+step-requires-clause-call c =
+    call_here c.self.inside.own c.self.inside.deltas.items c.self.inside.segment c.args.self.now c.self.view_is _ refl c.args.call c.requires
+
+pub step-requires-clause-ready : goal.step-requires-clause-ready
+step-requires-clause-ready c =
+    ready_here c.self.inside.own c.self.inside.deltas.items c.self.inside.segment c.args.self.now c.self.view_is c.as_slice.result.now
+    (c.as_slice.ensures ∙ ap (λ (v : SiteValue). v.state.deltas) c.self.view_is) c.args.call c.self.invariant
 
 pub returns-in_err-reserve-clause-state : goal.returns-in_err-reserve-clause-state
 returns-in_err-reserve-clause-state c =
-    spare_changed c.self.inside.own c.own_call.new.self c.self.inside.deltas.items c.self.inside.segment _ c.args.self.now c.in_ok-own.ensures.same
+    spare_changed c.self.inside.own c.self.inside.own c.self.inside.deltas.items c.self.inside.segment _ c.args.self.now refl
     (ap (λ l. l.items) c.in_err-reserve.ensures.err) c.self.view_is
 
 pub invariant_of-self-2 : goal.invariant_of-self-2
 invariant_of-self-2 c =
-    still_site c.self.inside.own c.own_call.new.self c.self.inside.deltas.items c.self.inside.segment _ c.self.invariant c.in_ok-own.ensures.same
+    still_site c.self.inside.own c.self.inside.own c.self.inside.deltas.items c.self.inside.segment _ c.self.invariant refl
     (ap (λ l. l.items) c.in_ok-reserve.ensures.ok)
 
 pub returns-clause-state : goal.returns-clause-state
 returns-clause-state c =
-    spare_changed c.self.inside.own c.own_call.new.self c.self.inside.deltas.items c.self.inside.segment _ c.args.self.now c.in_ok-own.ensures.same
+    spare_changed c.self.inside.own c.self.inside.own c.self.inside.deltas.items c.self.inside.segment _ c.args.self.now refl
     (ap (λ l. l.items) c.in_ok-reserve.ensures.ok) c.self.view_is
 
 pub returns-clause-room : goal.returns-clause-room
-unfolding definitions
 returns-clause-room c =
-    let runs = room_runs c.self.inside.own c.self.inside.deltas.items c.self.inside.segment c.args.self.now c.self.view_is c.args.call c.requires
-    c.in_ok-own.own.value c.in_ok-own.ensures.call in
-    room_is c.self.inside.own c.self.inside.deltas.items c.self.inside.segment c.args.self.now c.args.call _ _ _ c.self.view_is
-    (ap (λ (o : OwnCall). o.program.temporaries) c.deref-run.ensures ∙ runs.temporaries)
-    (c.from-count.ensures ∙ ap (λ (o : OwnCall). o.program.prints) c.deref-run.ensures ∙ runs.prints) refl runs c.in_ok-own.ensures.treaty
-    (ap (λ l. l.items) c.from_vec.ensures ∙ c.in_ok-deltas.ensures.items ∙ c.as_slice.ensures) c.in_ok-prints.ensures c.in_ok-temporaries.ensures
-    (room_clauses c.self.inside.own c.self.inside.deltas.items c.self.inside.segment c.args.self.now c.self.view_is c.args.call c.requires
-    c.in_ok-own.own.value c.in_ok-own.ensures.call)
-    (room_freezes c.self.inside.own c.self.inside.deltas.items c.self.inside.segment c.args.self.now c.self.view_is c.args.call c.requires
-    c.in_ok-own.own.value c.in_ok-own.ensures.call)
+    let own = c.self.inside.own in
+    room_is c.self.inside.own c.self.inside.deltas.items c.self.inside.segment c.args.self.now c.args.call _ c.self.view_is refl
+    (c.in_ok-deltas.ensures.deltas ∙ ap (λ l. step_deltas (plain_workload own.work) (with_deltas own l) c.args.call) c.as_slice.ensures)
+    (c.in_ok-deltas.ensures.prints ∙ ap (λ l. step_prints (plain_workload own.work) (with_deltas own l) c.args.call) c.as_slice.ensures)
+    (λ n none. c.in_ok-deltas.ensures.written n none ∙ ap (λ l. values_of l n) c.as_slice.ensures)
 
 pub returns-clause-copies : goal.returns-clause-copies
-unfolding definitions
 returns-clause-copies c =
-    let runs = room_runs c.self.inside.own c.self.inside.deltas.items c.self.inside.segment c.args.self.now c.self.view_is c.args.call c.requires
-    c.in_ok-own.own.value c.in_ok-own.ensures.call in
-    copies_are c.self.inside.own c.self.inside.deltas.items c.self.inside.segment c.args.self.now c.args.call _ _ _ c.self.view_is
-    (c.from-count.ensures ∙ ap (λ (o : OwnCall). o.program.prints) c.deref-run.ensures ∙ runs.prints) c.in_ok-lists.ensures
+    let own = c.self.inside.own in
+    copies_are c.self.inside.own c.self.inside.deltas.items c.self.inside.segment c.args.self.now c.args.call _ c.args.copies _ c.self.view_is
+    (c.in_ok-deltas.ensures.prints ∙ ap (λ l. step_prints (plain_workload own.work) (with_deltas own l) c.args.call) c.as_slice.ensures)
+    (c.in_ok-lists.ensures ∙ ap (λ (l : List ℤ). replicate c.args.copies (record { items = []; spare = length l })) c.as_slice-2.ensures)

@@ -1,0 +1,217 @@
+-- A call's local step is its command, run on base plus own deltas.
+use Rattle.std.proofs.Common.{◌≡◌, ℕ, ◌==◌, ◌+◌, ◌*◌, ◌^◌, ◌<◌, ◌≤◌, Bool, true, false, cond, ◌&&◌, List, [], ◌∷◌, suc, length, get_or, ℤ, pos, ◌+ℤ◌, ◌-ℤ◌, FitsSigned, refl, sym, ap, ap₂, ◌∙◌, subst, arith}
+use mathlib.Core.Path.{fun_ext}
+use Rattle.std.specs.Int.{w64}
+use Rattle.std.specs.Int.RustNames.{unsigned_abs}
+use Rattle.std.proofs.lemmas.Int.{ints, fits_signed_from_abs}
+use Rattle.std.proofs.lemmas.Bool.Decides.{nat_tests}
+use Rattle.homeo_syntax.specs.declared.low.SplitName.TheVariants.{Whole, Base, Delta}
+use Rattle.homeo_syntax.specs.Low.{Command, Commands, Skip, Assign, Write, Print, Seq, If, NoCommand, MoreCommand}
+use Rattle.homeo_syntax.specs.Source as s
+use Rattle.homeo_meaning.specs.Key.{definitions as meaning_definitions}
+use Rattle.homeo_meaning.specs.declared.call.CallId.{CallId}
+use Rattle.homeo_meaning.specs.Acceptance.{IsAccepted}
+use Rattle.homeo_meaning.specs.Bounds.{all_bounds}
+use Rattle.homeo_meaning.specs.CallForm.{ground_form}
+use Rattle.homeo_meaning.specs.LowMeaning.{BaseAt, exec, whole}
+use Rattle.homeo_meaning.specs.NamesWithin.{NamesWithin, AllNamesWithin}
+use Rattle.homeo_meaning.specs.Schema.{schema_of}
+use Rattle.homeo_meaning.specs.Serial.{values_of, values_from, database_like}
+use Rattle.homeo_meaning.specs.Whole.{IsWhole, AreWhole}
+use Rattle.homeo_meaning.proofs.Within.{all_within, list_in, length_in}
+use Rattle.homeo_lform.proofs.NamedWithin.{named_law}
+use Rattle.homeo_plan.specs.Key.{definitions as plan_definitions}
+use Rattle.homeo_plan.specs.Each.{Member}
+use Rattle.homeo_plan.specs.Joined.{Deltas, folded, with_site}
+use Rattle.homeo_plan.specs.Local.{local_prints, local_deltas}
+use Rattle.homeo_plan.specs.Planned.{sites_of, planned, planned_at, template_at, policy}
+use Rattle.homeo_plan.specs.Soundness.{StepsFold}
+use Rattle.homeo_plan.specs.Template.{PlannedCall}
+use Rattle.homeo_plan.proofs.GroundNumbers.{values_small}
+use Rattle.homeo_plan.proofs.OwnWithin.{only, only_keeps, only_here, only_folded}
+use Rattle.homeo_plan.proofs.PlannedCalls.{planned_member}
+use Rattle.homeo_plan.proofs.Policy.{policy_fits}
+use Rattle.homeo_plan.proofs.Replays.{planned_whole, planned_covers}
+use Rattle.homeo_plan.proofs.Stepped.{stepped}
+use Rattle.homeo_split.specs.Key.{definitions as split_definitions}
+use Rattle.homeo_split.specs.CanExec.{run_limit, can_exec}
+use Rattle.homeo_split.specs.Shape.{has_places, has_places_all}
+use Rattle.homeo_local.specs.OwnValues.{own_values, own_shape}
+use Rattle.homeo_history.specs.Key.{definitions as history_definitions}
+use Rattle.homeo_history.specs.Legal.{IsCallAt}
+use Rattle.homeo_history.proofs.ValueLists.{values_like}
+use Rattle.homeo_build.proofs.Planning.{form_runs}
+use Rattle.homeo_site.specs.Key.{definitions}
+use Rattle.homeo_site.specs.SiteState.{SiteState, step_prints, step_values, step_deltas}
+use Rattle.homeo_site.specs.inner.Ready.{IsReady}
+use Rattle.homeo_site.proofs.CallsOfSites.{call_site}
+use Rattle.homeo_site.proofs.LocalSteps.{after_within}
+use Rattle.homeo_site.proofs.StepsRun.{HasGroundCall, has_ground_call}
+
+-- ---- a command over whole objects writes objects that are there
+module _ (objects names : ℕ) where
+  mutual
+    unfolding meaning_definitions split_definitions
+
+    places_there : (c : Command) → IsWhole c → NamesWithin objects names c → has_places (own_shape objects) c ≡ true
+    places_there Skip is within = refl
+    places_there (Assign t e) is within = refl
+    places_there (Write (Whole x) e) is within = grind (arith, nat_tests, within.0)
+    places_there (Write (Base x) e) is within = absurd is.0
+    places_there (Write (Delta x j) e) is within = absurd is.0
+    places_there (Print e) is within = refl
+    places_there (Seq cs) is within = all_places_there cs is within
+    places_there (If b c d) is within = ap₂ ◌&&◌ (places_there c is.1 within.1) (places_there d is.2 within.2)
+
+    all_places_there : (cs : Commands) → AreWhole cs → AllNamesWithin objects names cs → has_places_all (own_shape objects) cs ≡ true
+    all_places_there NoCommand is within = refl
+    all_places_there (MoreCommand c cs) is within = ap₂ ◌&&◌ (places_there c is.0 within.0) (all_places_there cs is.1 within.1)
+
+-- ---- one site's deltas alone, put again
+put_again : (i : ℕ) (x y : Deltas) → with_site (only i x) i y ≡ only i y
+unfolding plan_definitions meaning_definitions
+put_again i x y = fun_ext (λ j. go (i == j))
+  where
+    go : (v : Bool) → (let d : Deltas = cond v y (cond v x (λ n. pos 0)) in d) ≡ cond v y (λ n. pos 0)
+    go true = refl
+    go false = refl
+
+small_fits : (v : ℤ) → unsigned_abs v ≤ 3 * 10 ^ 12 → FitsSigned w64 v
+small_fits v h = fits_signed_from_abs w64 v (omega (arith, h))
+
+less_small : (a b : ℤ) → unsigned_abs (a -ℤ b) ≤ unsigned_abs a + unsigned_abs b
+less_small a b = grind (arith, ints)
+
+-- ---- a list with the values of a function is that of the function
+list_from : (k : ℕ) (xs : List ℤ) (f : ℕ → ℤ) → ((n : ℕ) → get_or xs n (pos 0) ≡ f (k + n)) → xs ≡ values_from k (length xs) f
+list_from k [] f h = refl
+list_from k (x ∷ xs) f h =
+    let first : k + 0 ≡ k = omega arith in
+    let next : (n : ℕ) → k + suc n ≡ suc k + n = λ n. omega arith in
+    let here : x ≡ f k = h 0 ∙ ap f first in
+    let rest : xs ≡ values_from (suc k) (length xs) f = list_from (suc k) xs f (λ n. h (suc n) ∙ ap f (next n)) in
+    λ j. here j ∷ rest j
+
+list_is : (base xs : List ℤ) (f : ℕ → ℤ) → length xs ≡ length base → ((n : ℕ) → values_of xs n ≡ f n) → xs ≡ database_like base f
+unfolding meaning_definitions
+list_is base xs f count h =
+    let zero_on : (n : ℕ) → n ≡ 0 + n = λ n. omega arith in
+    list_from 0 xs f (λ n. h n ∙ ap f (zero_on n)) ∙ ap (λ n. values_from 0 n f) count
+
+-- ---- a call of a site
+module _ (w : s.Workload) (x : SiteState) (accepted : IsAccepted w) (h : IsReady w x) (call : CallId) (at : IsCallAt w x.number call) where
+  abbrev k : ℕ
+  k = sites_of w
+
+  abbrev b : ℕ → ℤ
+  b = values_of x.base
+
+  abbrev d : Deltas
+  d = values_of x.deltas
+
+  abbrev g : PlannedCall
+  g = planned_at w call
+
+  member : Member g (planned w)
+  member = planned_member w call at.exists
+
+  here : g.site ≡ x.number
+  here = call_site w x.number call at
+
+  one : StepsFold k b (only x.number d) g x.number
+  unfolding history_definitions
+  one =
+      let fits = policy_fits w x.base accepted in
+      subst (StepsFold k b (only x.number d) g) here
+      (stepped k b (template_at w x.base) (policy w x.base) (only x.number d) fits
+      (λ j l. only_keeps k (template_at w x.base) (policy w x.base) x.number d fits h.meets j) g (planned_covers w x.base g member)
+      (subst (λ j. j < k) (sym here) h.site) (planned_whole w g member))
+
+  alone_is : folded k b (only x.number d) ≡ own_values x.base x.deltas
+  alone_is = only_folded k b x.number d h.site
+
+  pub eval_prints : (exec g.command (whole (own_values x.base x.deltas))).prints ≡ step_prints w x call
+  unfolding definitions history_definitions
+  eval_prints =
+      ap (λ y. (exec g.command (whole y)).prints) (sym alone_is) ∙ one.prints ∙ ap (local_prints k b g) (only_here x.number d)
+
+  pub eval_values : (n : ℕ) → (exec g.command (whole (own_values x.base x.deltas))).state (BaseAt n) ≡ b n +ℤ step_values w x call n
+  unfolding definitions history_definitions
+  eval_values n =
+      ap (λ y. (exec g.command (whole y)).state (BaseAt n)) (sym alone_is)
+      ∙ ap (λ (f : ℕ → ℤ). f n)
+      (one.after ∙ ap (λ y. folded k b (with_site (only x.number d) x.number (local_deltas k b g y))) (only_here x.number d)
+      ∙ ap (folded k b) (put_again x.number d (local_deltas k b g d)) ∙ only_folded k b x.number (local_deltas k b g d) h.site)
+
+  -- what it needs
+  ground : HasGroundCall w g
+  ground = has_ground_call w g accepted member
+
+  own_list : List ℤ
+  own_list = database_like x.base (own_values x.base x.deltas)
+
+  pub eval_runs : can_exec run_limit g.command (whole (own_values x.base x.deltas)) ≡ true
+  unfolding own_list plan_definitions
+  eval_runs =
+      subst (λ c. can_exec run_limit c (whole (own_values x.base x.deltas)) ≡ true) (ap (λ (p : PlannedCall). p.command) ground.is)
+      (subst (λ y. can_exec run_limit (ground_form w ground.from) (whole y) ≡ true)
+      (values_like (schema_of w) x.base (own_values x.base x.deltas) h.within h.all)
+      (form_runs w ground.from own_list accepted ground.called (list_in (schema_of w) x.base (own_values x.base x.deltas) h.within h.all)
+      (subst (λ j. j < k) (sym (ap (λ (p : PlannedCall). p.site) ground.is ∙ here)) h.site)))
+
+  pub eval_places : has_places (own_shape (length x.deltas)) g.command ≡ true
+  unfolding plan_definitions meaning_definitions
+  eval_places =
+      subst (λ n. has_places (own_shape n) g.command ≡ true) (sym (h.count ∙ length_in (all_bounds (schema_of w)) x.base h.within))
+      (places_there (length (all_bounds (schema_of w))) (length w.names) g.command (planned_whole w g member)
+      (subst (NamesWithin (length (all_bounds (schema_of w))) (length w.names)) (ap (λ (c : PlannedCall). c.command) ground.is)
+      (named_law w ground.from accepted)))
+
+  pub eval_fits : (n : ℕ) → FitsSigned w64 (own_values x.base x.deltas n)
+  eval_fits n = let small = values_small w accepted (own_values x.base x.deltas) h.all n in small_fits _ (omega (arith, small))
+
+  -- what it leaves
+  pub eval_deltas :
+      (new : List ℤ) → length new ≡ length x.deltas →
+      ((n : ℕ) → let v = (exec g.command (whole (own_values x.base x.deltas))).state (BaseAt n) in FitsSigned w64 (v -ℤ b n) → values_of new n ≡ v -ℤ b n) →
+      new ≡ step_deltas w x call
+  unfolding definitions
+  eval_deltas new count left = list_is x.base new (step_values w x call) (count ∙ h.count) each
+    where
+      each : (n : ℕ) → values_of new n ≡ step_values w x call n
+      each n =
+          let v = (exec g.command (whole (own_values x.base x.deltas))).state (BaseAt n) in
+          let is = eval_values n in
+          let base_small = values_small w accepted b (all_within (schema_of w) x.base h.within) n in
+          let after_small = values_small w accepted (λ m. b m +ℤ step_values w x call m) (after_within w x accepted h call at) n in
+          let v_small : unsigned_abs v ≤ 10 ^ 12 = subst (λ z. unsigned_abs z ≤ 10 ^ 12) (sym is) after_small in
+          let there = left n (small_fits _ (omega (arith, less_small v (b n), v_small, base_small))) in
+          omega (arith, ints, there, is)
+
+  -- by another name of the command and of the base
+  module _ (f : Command) (bs : List ℤ) (is : f ≡ g.command) (same : bs ≡ x.base) where
+    pub step_places : has_places (own_shape (length x.deltas)) f ≡ true
+    step_places = subst (λ c. has_places (own_shape (length x.deltas)) c ≡ true) (sym is) eval_places
+
+    pub step_sums : (n : ℕ) → FitsSigned w64 (own_values bs x.deltas n)
+    step_sums = subst (λ l. (n : ℕ) → FitsSigned w64 (own_values l x.deltas n)) (sym same) eval_fits
+
+    pub step_small : can_exec run_limit f (whole (own_values bs x.deltas)) ≡ true
+    step_small =
+        subst (λ c. can_exec run_limit c (whole (own_values bs x.deltas)) ≡ true) (sym is)
+        (subst (λ l. can_exec run_limit g.command (whole (own_values l x.deltas)) ≡ true) (sym same) eval_runs)
+
+    pub prints_left : (ps : List ℤ) → ps ≡ (exec f (whole (own_values bs x.deltas))).prints → ps ≡ step_prints w x call
+    prints_left ps e =
+        e ∙ ap₂ (λ c l. (exec c (whole (own_values l x.deltas))).prints) is same ∙ eval_prints
+
+    pub deltas_left :
+        (new : List ℤ) → length new ≡ length x.deltas →
+        ((n : ℕ) → let v = (exec f (whole (own_values bs x.deltas))).state (BaseAt n) in FitsSigned w64 (v -ℤ values_of bs n) → values_of new n ≡ v -ℤ values_of bs n) →
+        new ≡ step_deltas w x call
+    deltas_left new count left =
+        eval_deltas new count
+        (subst
+        (λ c. (n : ℕ) → let v = (exec c (whole (own_values x.base x.deltas))).state (BaseAt n) in FitsSigned w64 (v -ℤ b n) → values_of new n ≡ v -ℤ b n) is
+        (subst
+        (λ l. (n : ℕ) → let v = (exec f (whole (own_values l x.deltas))).state (BaseAt n) in FitsSigned w64 (v -ℤ values_of l n) → values_of new n ≡ v -ℤ values_of l n) same left))

@@ -1,9 +1,0 @@
-use Rattle.std.proofs.Common.{◌≡◌, drop}
-use Rattle.homeo_meaning.specs.Serial.{values_of}
-use Rattle.homeo_site.specs.inner.Failures.{first_failure, own_freeze_failure}
-use Rattle.homeo_site.proofs.own_treaty.first_freeze.Given as goal
-
-abbrev pub invariant-loop-number : goal.invariant-loop-number
-invariant-loop-number l =
-    first_failure (own_freeze_failure l.first l.site l.freezes (values_of l.deltas)) l.numbers ≡
-    first_failure (own_freeze_failure l.first l.site l.freezes (values_of l.deltas)) (drop l.number-index l.numbers)
