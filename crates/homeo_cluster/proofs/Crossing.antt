@@ -21,8 +21,6 @@ use Rattle.homeo_context.specs.contracts.declarations.Declarations as Declaratio
 use Rattle.homeo_ground.specs.contracts.grounding.Grounding as Grounding
 use Rattle.homeo_build.specs.contracts.compiled.Compiled as Compiled
 use Rattle.homeo_history.specs.contracts.history.Round as Round
-use Rattle.homeo_site.specs.contracts.own_calls.OwnCall as OwnCall
-use Rattle.homeo_site.specs.contracts.own_treaty.OwnTreaty as OwnTreaty
 use Rattle.homeo_site.specs.contracts.site.Site as Site
 use Rattle.homeo_notes.specs.declared.blank.Naming as Naming
 use Rattle.homeo_notes.specs.contracts.board.Board as Board
@@ -75,22 +73,9 @@ ObjectPlan-sync = search (std.crosses, low_expression.crosses, low_test.crosses,
 Round-send : IsSend Round.the_row
 Round-send = search (std.crosses, list.the_send, sendable) depth 60 fits 20000
 
-OwnCall-send : IsSend OwnCall.the_row
-OwnCall-send = search (std.crosses, low_expression.crosses, low_test.crosses, low_command.crosses, list.the_send, sendable) depth 60 fits 20000
-
-OwnCall-sync : IsSync OwnCall.the_row
-OwnCall-sync = search (std.crosses, low_expression.crosses, low_test.crosses, low_command.crosses, list.the_sync, sendable) depth 60 fits 20000
-
-OwnTreaty-send : IsSend OwnTreaty.the_row
-OwnTreaty-send = let a = ObjectPlan-send in let b = ObjectPlan-sync in search (std.crosses, list.the_send, sendable) depth 60 fits 20000
-
-OwnTreaty-sync : IsSync OwnTreaty.the_row
-OwnTreaty-sync = let a = ObjectPlan-send in let b = ObjectPlan-sync in search (std.crosses, list.the_sync, sendable) depth 60 fits 20000
-
 Site-send : IsSend Site.the_row
 Site-send =
-    let a = Compiled-send in let b = Compiled-sync in let c = ObjectPlan-send in let d = ObjectPlan-sync in let e = OwnCall-send in let f = OwnCall-sync in
-    let g = OwnTreaty-send in let h = OwnTreaty-sync in
+    let a = Compiled-send in let b = Compiled-sync in let c = ObjectPlan-send in let d = ObjectPlan-sync in
     search (std.crosses, low_expression.crosses, list.the_send, sendable) depth 60 fits 20000
 
 module _ (N : RattleType) (n : Naming.Ghosts N.Denot) where

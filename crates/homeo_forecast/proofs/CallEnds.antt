@@ -29,9 +29,9 @@ use Rattle.homeo_effect.specs.Program.{plain_program}
 use Rattle.homeo_effect.specs.Touched.{written, is_touched, is_among, touched_clauses, touched_freezes}
 use Rattle.homeo_effect.specs.declared.program.Program.{Program}
 use Rattle.homeo_outline.specs.declared.plan.ObjectPlan.{ObjectPlan}
-use Rattle.homeo_site.specs.OwnCalls.{RunsAs, IsOwnCall, AreOwnCalls}
-use Rattle.homeo_site.specs.declared.own_calls.OwnCall.{OwnCall}
-use Rattle.homeo_site.specs.declared.own_calls.OwnCalls.{OwnCalls}
+use Rattle.homeo_forecast.specs.inner.OwnCalls.{RunsAs, IsOwnCall, AreOwnCalls}
+use Rattle.homeo_forecast.specs.declared.own_calls.OwnCall.{OwnCall}
+use Rattle.homeo_forecast.specs.declared.own_calls.OwnCalls.{OwnCalls}
 use Rattle.homeo_forecast.specs.Peaks.{Stop, first_stop}
 use Rattle.homeo_forecast.specs.Visits.{Visit, after_all, visits, next_visit}
 use Rattle.homeo_forecast.specs.declared.replay.Replay.{Replay}

@@ -5,7 +5,9 @@ pub mod ForecastSteps
 pub mod IndexLists
 pub mod Lists
 pub mod OneText
+pub mod OwnLookups
 pub mod Peaks
+pub mod PlanCalls
 pub mod Prefixes
 pub mod Raised
 pub mod Ready

@@ -12,11 +12,11 @@ ghost use Rattle.homeo_forecast.specs.View.{plain_stop};
 ghost use Rattle.homeo_forecast.specs.inner.Prepared.{IsPrepared};
 
 use crate::outlook::Outlook;
+use crate::own_calls::OwnCalls;
 use crate::prepared::Prepared;
 use crate::replay::Replay;
 use homeo_build::Compiled;
 use homeo_meaning::{CallId, Database};
-use homeo_site::OwnCalls;
 use homeo_syntax::Memory;
 use std::alloc::Global;
 

@@ -9,7 +9,7 @@ ghost use Rattle.homeo_plan.specs.Each.{Each};
 ghost use Rattle.homeo_plan.specs.PlanView.{plain_clause, plain_config, plain_template};
 ghost use Rattle.homeo_plan.specs.Planned.{sites_of, template_at};
 ghost use Rattle.homeo_plan.specs.Template.{Clause as PlainClause};
-ghost use Rattle.homeo_site.specs.OwnCalls.{AreOwnCalls};
+ghost use Rattle.homeo_forecast.specs.inner.OwnCalls.{AreOwnCalls};
 ghost use Rattle.homeo_forecast.specs.Peaks.{first_stop, peak_config};
 ghost use Rattle.homeo_forecast.specs.View.{plain_stop};
 ghost use Rattle.homeo_forecast.specs.Visits.{Visit, visits, next_visit};
@@ -20,6 +20,7 @@ ghost use Rattle.homeo_forecast.specs.inner.Rooms.{HaveRooms};
 ghost use Rattle.homeo_forecast.specs.inner.Stops.{first_of, first_among, clause_stop_at, freeze_stop_at};
 
 use crate::outlook::Stop;
+use crate::own_calls::OwnCalls;
 use crate::prepared::Prepared;
 use crate::raising::raise_all;
 use crate::rooms::Room;
@@ -28,7 +29,6 @@ use crate::stops::{first_frozen, first_spent};
 use homeo_build::Compiled;
 use homeo_meaning::CallId;
 use homeo_plan::{Clause, Config, Template};
-use homeo_site::OwnCalls;
 use homeo_syntax::Memory;
 use std::alloc::Global;
 

@@ -10,7 +10,7 @@ ghost use Rattle.homeo_split.specs.CanExec.{run_limit, can_exec_all};
 ghost use Rattle.homeo_effect.specs.OwnState.{own_state};
 ghost use Rattle.homeo_effect.specs.Program.{plain_program, set_after_all, prints_of_all};
 ghost use Rattle.homeo_effect.specs.Touched.{written};
-ghost use Rattle.homeo_site.specs.OwnCalls.{RunsAs};
+ghost use Rattle.homeo_forecast.specs.inner.OwnCalls.{RunsAs};
 
 use homeo_effect::Program;
 use homeo_syntax::{Memory, Prints};

@@ -1,16 +1,18 @@
 -- The calls of a site's clients are planned, at that site, and their entries replay as the planned calls do.
-use Rattle.std.proofs.Common.{◌≡◌, ℕ, List, [], ◌∷◌, ◌++◌, map, ℤ, Some, All, refl, sym, ap, ◌∙◌}
-use Rattle.std.specs.Option.{option_map}
+use Rattle.std.proofs.Common.{◌≡◌, ℕ, zero, suc, ◌<◌, List, [], ◌∷◌, ◌++◌, map, length, slice_get, ℤ, Some, All, refl, sym, ap, ◌∙◌, arith}
+use Rattle.std.specs.Option.{option_map, option_map_or}
 use Rattle.std.proofs.lemmas.List.Elements.{All-head, All-tail}
+use Rattle.homeo_syntax.specs.Low.{Skip}
 use Rattle.homeo_syntax.specs.Source as s
 use Rattle.homeo_meaning.specs.Key.{definitions as meaning_definitions}
 use Rattle.homeo_meaning.specs.declared.call.CallId.{CallId}
+use Rattle.homeo_meaning.specs.Ground.{Ground, grounds, ground_of}
 use Rattle.homeo_meaning.specs.Schema.{nat_of}
 use Rattle.homeo_meaning.specs.Serial.{values_of}
 use Rattle.homeo_plan.specs.Key.{definitions as plan_definitions}
 use Rattle.homeo_plan.specs.Each.{Each, Member}
 use Rattle.homeo_plan.specs.Joined.{Deltas}
-use Rattle.homeo_plan.specs.Planned.{sites_of, planned, planned_at, template_at, policy}
+use Rattle.homeo_plan.specs.Planned.{sites_of, planned_call, planned, planned_at, template_at, policy}
 use Rattle.homeo_plan.specs.Replay.{KeepsAlong}
 use Rattle.homeo_plan.specs.Template.{PlannedCall}
 use Rattle.homeo_plan.proofs.PlannedCalls.{KnownCall, known, planned_is, planned_member}
@@ -61,3 +63,21 @@ pub keeps_more :
 unfolding plan_definitions history_definitions
 keeps_more w base i [] e x h one = (one, tt)
 keeps_more w base i (d ∷ es) e x h one = (h.0, keeps_more w base i es e (deltas_after w base d.call x) h.1 one)
+
+-- ---- the planned call at a number
+nothing : PlannedCall
+nothing = record { site = 0; command = Skip }
+
+planned_here :
+    (w : s.Workload) (gs : List Ground) (n : ℕ) → n < length gs →
+    slice_get (map (planned_call w) gs) n ≡ Some (option_map_or (planned_call w) (slice_get gs n) nothing)
+planned_here w [] n lt = absurd (omega arith)
+planned_here w (g ∷ gs) zero lt = refl
+planned_here w (g ∷ gs) (suc n) lt = planned_here w gs n (omega arith)
+
+pub planned_there :
+    (w : s.Workload) (call : CallId) (n : ℕ) → n < length (grounds w) → slice_get (grounds w) n ≡ ground_of w call →
+    slice_get (planned w) n ≡ Some (planned_at w call)
+unfolding plan_definitions nothing
+planned_there w call n lt ground =
+    planned_here w (grounds w) n lt ∙ ap (λ g. Some (option_map_or (planned_call w) g nothing)) ground

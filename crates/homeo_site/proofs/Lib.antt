@@ -8,11 +8,9 @@ pub mod OwnChecks
 pub mod OwnEvals
 pub mod OwnFailures
 pub mod OwnFits
-pub mod OwnLookups
 pub mod OwnSums
 pub mod OwnTerms
 pub mod PartsMade
-pub mod PlanCalls
 pub mod PlanChecks
 pub mod PlanClauses
 pub mod SiteAttempts

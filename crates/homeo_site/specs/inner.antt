@@ -4,4 +4,3 @@ pub mod OwnRound
 pub mod Parts
 pub mod PlanFailures
 pub mod Ready
-pub mod RunsTaken

@@ -5,13 +5,11 @@
 mod attempts;
 pub mod laws;
 mod lists;
-mod own_calls;
 mod own_round;
 mod own_treaty;
 mod site;
 mod start;
 
 pub use attempts::{Change, Outcome, Room};
-pub use own_calls::{OwnCall, OwnCalls};
 pub use site::Site;
 pub use start::SiteStart;

@@ -69,14 +69,14 @@ fn own_bound(plan: &ObjectPlan, clause: usize, site: u32) -> i128
     }
 }
 
-/// Whether so many sites may all have this sum: together they have at most the slack. The answer is no where that is out of the range
-/// of i128.
+/// Whether so many sites may all have this sum: together they have at most the slack. The answer is no where the sum is out of the
+/// range of i64.
 fn may_all_have(sites: u32, sum: i128, slack: i128) -> bool
     ensures { IsTrue result → (sum *ℤ pos sites) ≤ℤ slack }
 {
-    match sum.checked_mul(i128::from(sites)) {
-        Some(total) => total <= slack,
-        None => false,
+    match i64::try_from(sum) {
+        Ok(small) => i128::from(small) * i128::from(sites) <= slack,
+        Err(_) => false,
     }
 }
 

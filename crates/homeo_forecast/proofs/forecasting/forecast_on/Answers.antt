@@ -4,7 +4,7 @@ use Rattle.std.specs.Prelude.{Vec}
 use Rattle.homeo_syntax.specs.SourceView.{plain_workload}
 use Rattle.homeo_meaning.specs.declared.call.CallId.{CallId}
 use Rattle.homeo_meaning.specs.Calls.{CallExists}
-use Rattle.homeo_site.specs.OwnCalls.{AreOwnCalls}
+use Rattle.homeo_forecast.specs.inner.OwnCalls.{AreOwnCalls}
 use Rattle.homeo_forecast.specs.declared.rooms.Room.{Room}
 use Rattle.homeo_forecast.specs.inner.Replays.{CanBound}
 use Rattle.homeo_forecast.specs.inner.Rooms.{HaveRooms}

@@ -1,6 +1,6 @@
 use Rattle.std.proofs.Common.{take}
 use Rattle.homeo_syntax.specs.SourceView.{plain_workload}
-use Rattle.homeo_site.specs.OwnCalls.{AreOwnCalls}
+use Rattle.homeo_forecast.specs.inner.OwnCalls.{AreOwnCalls}
 use Rattle.homeo_forecast.specs.inner.Replays.{IsReplay}
 use Rattle.homeo_forecast.proofs.forecasting.forecast_on.Given as goal
 

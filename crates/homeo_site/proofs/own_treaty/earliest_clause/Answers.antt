@@ -1,5 +1,4 @@
 -- One more number, and all of them.
-use Rattle.std.proofs.Common.{sym, ap}
 use Rattle.homeo_meaning.specs.Serial.{values_of}
 use Rattle.homeo_outline.specs.ObjectPlan.{template_in, config_in}
 use Rattle.homeo_site.specs.inner.Failures.{own_failure}

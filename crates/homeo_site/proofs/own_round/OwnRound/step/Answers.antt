@@ -18,7 +18,7 @@ use Rattle.homeo_outline.specs.declared.plan.ObjectPlan.{ObjectPlan}
 use Rattle.homeo_site.specs.SiteView.{StartValue}
 use Rattle.homeo_site.specs.inner.Ready.{with_deltas}
 use Rattle.homeo_site.proofs.OwnEvals.{step_places, step_sums, step_small, prints_left, deltas_left}
-use Rattle.homeo_site.proofs.OwnLookups.{planned_there}
+use Rattle.homeo_site.proofs.CallsOfSites.{planned_there}
 use Rattle.homeo_site.proofs.own_round.OwnRound.step.Goals as goal
 
 both_ok : {A E : Type 0} {P Q R : A → Type 0} → ((x : A) → P x → Q x → R x) → (r : Result A E) → IfOk r P → IfOk r Q → IfOk r R

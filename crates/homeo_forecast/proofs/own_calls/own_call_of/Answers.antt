@@ -11,7 +11,7 @@ use Rattle.homeo_split.specs.CanExec.{run_limit, can_exec_all}
 use Rattle.homeo_effect.specs.Counts.{assignment_count, print_count}
 use Rattle.homeo_effect.specs.EffectsView.{plain_all, plain_lent}
 use Rattle.homeo_effect.specs.Touched.{WritesOwn, written, touched_clauses, touched_freezes}
-use Rattle.homeo_site.proofs.own_calls.own_call_of.Goals as goal
+use Rattle.homeo_forecast.proofs.own_calls.own_call_of.Goals as goal
 
 pub taken_at_site-requires : goal.taken_at_site-requires
 taken_at_site-requires c = subst (λ (cs : List (Bor LCommand)). AreTaken (plain_lent cs)) (sym c.as_slice.ensures.value) c.requires.taken

@@ -20,9 +20,9 @@ use Rattle.homeo_follow.proofs.Residuals.{residual_is, are_taken}
 use Rattle.homeo_build.specs.Key.{definitions as build_definitions}
 use Rattle.homeo_build.specs.TakenCommands.{SitedCommands, taken_at}
 use Rattle.homeo_effect.specs.Touched.{written, touched_clauses, touched_freezes}
-use Rattle.homeo_site.specs.OwnCalls.{RunsAs, IsGroundOwnCall}
-use Rattle.homeo_site.specs.declared.own_calls.OwnCall.{OwnCall}
-use Rattle.homeo_site.specs.inner.RunsTaken.{RunsTaken}
+use Rattle.homeo_forecast.specs.inner.OwnCalls.{RunsAs, IsGroundOwnCall}
+use Rattle.homeo_forecast.specs.declared.own_calls.OwnCall.{OwnCall}
+use Rattle.homeo_forecast.specs.inner.RunsTaken.{RunsTaken}
 use Rattle.homeo_site.proofs.WrittenObjects.{writes_objects}
 
 -- ---- the call of commands that are taken

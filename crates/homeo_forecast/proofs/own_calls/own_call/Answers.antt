@@ -3,8 +3,8 @@ use Rattle.std.proofs.Common.{subst}
 use Rattle.homeo_syntax.specs.SourceView.{plain_workload}
 use Rattle.homeo_syntax.specs.declared.workload.Workload.{Workload}
 use Rattle.homeo_meaning.specs.Acceptance.{IsAccepted}
-use Rattle.homeo_site.proofs.PlanCalls.{are_taken_here, site_here, own_call_is}
-use Rattle.homeo_site.proofs.own_calls.own_call.Goals as goal
+use Rattle.homeo_forecast.proofs.PlanCalls.{are_taken_here, site_here, own_call_is}
+use Rattle.homeo_forecast.proofs.own_calls.own_call.Goals as goal
 
 pub own_call_of-requires-clause-taken : goal.own_call_of-requires-clause-taken
 own_call_of-requires-clause-taken c =

@@ -1,7 +1,7 @@
 use Rattle.homeo_syntax.specs.SourceView.{plain_workload}
-use Rattle.homeo_site.specs.Key.{definitions}
-use Rattle.homeo_site.proofs.OwnLookups.{none_made}
-use Rattle.homeo_site.proofs.own_calls.OwnCalls.new.Goals as goal
+use Rattle.homeo_forecast.specs.Key.{definitions}
+use Rattle.homeo_forecast.proofs.OwnLookups.{none_made}
+use Rattle.homeo_forecast.proofs.own_calls.OwnCalls.new.Goals as goal
 
 pub returns : goal.returns
 unfolding definitions

@@ -5,8 +5,8 @@ use Rattle.homeo_plan.specs.Split.{shift_all}
 use Rattle.homeo_plan.specs.Template.{Template}
 use Rattle.homeo_build.specs.TakenCommands.{SitedCommands}
 use Rattle.homeo_effect.specs.Touched.{written, touched_clauses, touched_freezes}
-use Rattle.homeo_site.specs.OwnCalls.{RunsAs}
-use Rattle.homeo_site.specs.declared.own_calls.OwnCall.{OwnCall}
+use Rattle.homeo_forecast.specs.inner.OwnCalls.{RunsAs}
+use Rattle.homeo_forecast.specs.declared.own_calls.OwnCall.{OwnCall}
 
 -- however many sites there are, it does on a base b what their delta transform does, where that writes the first objects only, and
 -- touches of a template what that touches

@@ -1,44 +1,24 @@
 -- What was made for ground calls stands at their numbers.
-use Rattle.std.proofs.Common.{◌≡◌, ℕ, zero, suc, ◌<◌, List, [], ◌∷◌, map, length, get_or, replicate, slice_get, slice_set, ℤ, Option, Some, None, refl, sym, ap, ◌∙◌, subst, arith}
+use Rattle.std.proofs.Common.{◌≡◌, ℕ, zero, suc, ◌<◌, List, [], ◌∷◌, map, length, get_or, replicate, slice_get, slice_set, ℤ, Option, Some, None, sym, ap, ◌∙◌, subst}
 use Rattle.std.specs.List.{AllZip}
-use Rattle.std.specs.Option.{option_map_or}
 use Rattle.std.specs.declared.sync.Arc.{Arc}
 use Rattle.std.proofs.lemmas.List.{length-map}
 use Rattle.std.proofs.lemmas.Slice.Zip.{AllZip-long}
-use Rattle.homeo_syntax.specs.Low.{Skip}
 use Rattle.homeo_syntax.specs.Source as s
 use Rattle.homeo_meaning.specs.declared.call.CallId.{CallId}
 use Rattle.homeo_meaning.specs.declared.call.GroundCall.{GroundCall}
-use Rattle.homeo_meaning.specs.Ground.{Ground, plain_ground, grounds, ground_of}
+use Rattle.homeo_meaning.specs.Ground.{plain_ground, grounds, ground_of}
 use Rattle.homeo_meaning.specs.Serial.{values_of}
 use Rattle.homeo_plan.specs.Key.{definitions as plan_definitions}
 use Rattle.homeo_plan.specs.Planned.{sites_of, planned_call, planned, planned_at}
 use Rattle.homeo_plan.specs.Template.{PlannedCall, base_row}
 use Rattle.homeo_history.specs.Legal.{IsCallAt}
-use Rattle.homeo_site.specs.Key.{definitions}
-use Rattle.homeo_site.specs.OwnCalls.{RunsAs, IsOwnCall, IsGroundOwnCall, IsMadeFor}
-use Rattle.homeo_site.specs.declared.own_calls.OwnCall.{OwnCall}
-use Rattle.homeo_site.proofs.CallsOfSites.{call_site}
+use Rattle.homeo_forecast.specs.Key.{definitions}
+use Rattle.homeo_forecast.specs.inner.OwnCalls.{RunsAs, IsOwnCall, IsGroundOwnCall, IsMadeFor}
+use Rattle.homeo_forecast.specs.declared.own_calls.OwnCall.{OwnCall}
+use Rattle.homeo_site.proofs.CallsOfSites.{call_site, planned_there}
 
--- ---- the planned call at a number
-nothing : PlannedCall
-nothing = record { site = 0; command = Skip }
-
-planned_here :
-    (w : s.Workload) (gs : List Ground) (n : ℕ) → n < length gs →
-    slice_get (map (planned_call w) gs) n ≡ Some (option_map_or (planned_call w) (slice_get gs n) nothing)
-planned_here w [] n lt = absurd (omega arith)
-planned_here w (g ∷ gs) zero lt = refl
-planned_here w (g ∷ gs) (suc n) lt = planned_here w gs n (omega arith)
-
-pub planned_there :
-    (w : s.Workload) (call : CallId) (n : ℕ) → n < length (grounds w) → slice_get (grounds w) n ≡ ground_of w call →
-    slice_get (planned w) n ≡ Some (planned_at w call)
-unfolding plan_definitions nothing
-planned_there w call n lt ground =
-    planned_here w (grounds w) n lt ∙ ap (λ g. Some (option_map_or (planned_call w) g nothing)) ground
-
--- so is its site at that number
+-- the site of the planned call at a number
 pub site_there :
     (w : s.Workload) (call : CallId) (n : ℕ) → n < length (grounds w) → slice_get (grounds w) n ≡ ground_of w call →
     (i : ℕ) → i ≡ (planned_at w call).site → (g : PlannedCall) → slice_get (planned w) n ≡ Some g → i ≡ g.site

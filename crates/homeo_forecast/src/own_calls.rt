@@ -1,4 +1,4 @@
-//! What sites run for ground calls.
+//! What a forecast runs for ground calls: it makes each call of a long list at one base.
 
 ghost use Rattle.std.specs.Prelude.{◌≡◌, ◌<◌, ◌^◌, ℤ, List, Some, None, length, replicate, slice_get, slice_set, IfOk};
 ghost use Rattle.homeo_syntax.specs.SourceView.{plain_workload};
@@ -12,8 +12,8 @@ ghost use Rattle.homeo_plan.specs.Template.{PlannedCall};
 ghost use Rattle.homeo_follow.specs.Taken.{AreTaken};
 ghost use Rattle.homeo_build.specs.TakenCommands.{sited_commands};
 ghost use Rattle.homeo_effect.specs.EffectsView.{plain_lent};
-ghost use Rattle.homeo_site.specs.OwnCalls.{IsOwnCall, IsGroundOwnCall, AreOwnCalls};
-ghost use Rattle.homeo_site.specs.inner.RunsTaken.{RunsTaken};
+ghost use Rattle.homeo_forecast.specs.inner.OwnCalls.{IsOwnCall, IsGroundOwnCall, AreOwnCalls};
+ghost use Rattle.homeo_forecast.specs.inner.RunsTaken.{RunsTaken};
 
 use homeo_build::Compiled;
 use homeo_build::taken::{Taken, taken_by};
@@ -29,18 +29,18 @@ const KEPT_FOR_A_STEP: usize = 8;
 /// What a ground call's site runs for it through a round: a program that does there what the call's residual does, and what of the
 /// site's treaty that touches.
 #[derive(Drop)]
-pub struct OwnCall {
-    pub program: Program,
+pub(crate) struct OwnCall {
+    pub(crate) program: Program,
     /// The numbers, from 0, of the treaty's clauses with a term on a delta that is written: rising.
-    pub clauses: homeo_syntax::List<u32>,
+    pub(crate) clauses: homeo_syntax::List<u32>,
     /// The numbers of the treaty's freezes that are written: rising. They go on after those of all clauses.
-    pub freezes: homeo_syntax::List<u32>,
+    pub(crate) freezes: homeo_syntax::List<u32>,
 }
 
 /// What is run for the ground calls of a round. Each is made when it is first asked for, and kept, unless it touches very many clauses
 /// and freezes for its length: it is then made whenever it is asked for.
 #[derive(Drop)]
-pub struct OwnCalls {
+pub(crate) struct OwnCalls {
     calls: Vec<Option<Arc<OwnCall, Global>>>,
 }
 
@@ -127,7 +127,7 @@ impl OwnCalls {
     /// # Errors
     ///
     /// `Memory` when out of memory.
-    pub fn new(alloc: Global, c: &Compiled) -> Result<OwnCalls, Memory>
+    pub(crate) fn new(alloc: Global, c: &Compiled) -> Result<OwnCalls, Memory>
         ensures { (base : List ℤ) → IfOk result (AreOwnCalls (plain_workload c.now) base) }
     {
         let calls = none_made(alloc, c.calls().len())?;
@@ -140,7 +140,7 @@ impl OwnCalls {
     /// # Errors
     ///
     /// `Memory` when out of memory.
-    pub fn get(
+    pub(crate) fn get(
         &mut self,
         alloc: Global,
         c: &Compiled,

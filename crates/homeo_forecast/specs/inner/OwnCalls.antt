@@ -16,9 +16,9 @@ use Rattle.homeo_effect.specs.OwnState.{own_state}
 use Rattle.homeo_effect.specs.Program.{plain_program, set_after_all, prints_of_all}
 use Rattle.homeo_effect.specs.Touched.{written, touched_clauses, touched_freezes}
 use Rattle.homeo_effect.specs.declared.program.Program.{Program}
-use Rattle.homeo_site.specs.Key.{definitions}
-use Rattle.homeo_site.specs.declared.own_calls.OwnCall.{OwnCall}
-use Rattle.homeo_site.specs.declared.own_calls.OwnCalls.{OwnCalls}
+use Rattle.homeo_forecast.specs.Key.{definitions}
+use Rattle.homeo_forecast.specs.declared.own_calls.OwnCall.{OwnCall}
+use Rattle.homeo_forecast.specs.declared.own_calls.OwnCalls.{OwnCalls}
 
 -- from the same own deltas, whatever the temporaries were, the program of site i does on a base what the commands do there
 -- alone; it writes deltas of the first objects only

@@ -3,11 +3,11 @@ use Rattle.std.proofs.Common.{sym, ◌∙◌, subst, arith}
 use Rattle.std.specs.List.{AllZip}
 use Rattle.homeo_syntax.specs.SourceView.{plain_workload}
 use Rattle.homeo_plan.specs.Planned.{planned, planned_at}
-use Rattle.homeo_site.specs.Key.{definitions}
-use Rattle.homeo_site.specs.OwnCalls.{IsOwnCall, IsMadeFor}
-use Rattle.homeo_site.specs.declared.own_calls.OwnCall.{OwnCall}
-use Rattle.homeo_site.proofs.OwnLookups.{site_there, place_within, made_there, ground_call, made_more}
-use Rattle.homeo_site.proofs.own_calls.OwnCalls.get.Goals as goal
+use Rattle.homeo_forecast.specs.Key.{definitions}
+use Rattle.homeo_forecast.specs.inner.OwnCalls.{IsOwnCall, IsMadeFor}
+use Rattle.homeo_forecast.specs.declared.own_calls.OwnCall.{OwnCall}
+use Rattle.homeo_forecast.proofs.OwnLookups.{site_there, place_within, made_there, ground_call, made_more}
+use Rattle.homeo_forecast.proofs.own_calls.OwnCalls.get.Goals as goal
 
 pub index-requires : goal.index-requires
 unfolding definitions
