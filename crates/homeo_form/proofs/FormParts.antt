@@ -12,7 +12,7 @@ use Rattle.homeo_plan.specs.declared.forms.Term.{Term}
 use Rattle.homeo_plan.specs.Limit.{form_limit}
 use Rattle.homeo_follow.specs.Key.{definitions as follow_definitions}
 use Rattle.homeo_follow.specs.Follow.{object_form}
-use Rattle.homeo_form.specs.inner.Key.{definitions}
+use Rattle.homeo_form.specs.Key.{definitions}
 use Rattle.homeo_form.specs.Moved.{IsMoved}
 use Rattle.homeo_form.specs.inner.Terms.{AreSmall, AreAddedUp, term_form}
 use Rattle.homeo_plan.proofs.DeltaLists.{in_order_adds}

@@ -15,7 +15,7 @@ use Rattle.homeo_plan.specs.Linear.{AreInOrder, same_delta, delta_before, deltas
 use Rattle.homeo_plan.specs.declared.forms.Delta.{Delta}
 use Rattle.homeo_plan.specs.declared.forms.Term.{Term}
 use Rattle.homeo_plan.specs.Limit.{form_limit}
-use Rattle.homeo_form.specs.inner.Key.{definitions}
+use Rattle.homeo_form.specs.Key.{definitions}
 use Rattle.homeo_form.specs.inner.Terms.{AllCount, AreSmall, share, factor_at}
 use Rattle.homeo_plan.proofs.DeltaLists.{After, after_before}
 use Rattle.homeo_form.proofs.Orders.{each_at}
