@@ -173,27 +173,6 @@ fn follow_all(alloc: Global, commands: &[LCommand], course: &mut Course<'_>) -> 
     Ok(())
 }
 
-/// Follows a command over whole objects along the branch that it takes at a base (this project's rule): an object is its base
-/// with its delta, which stands for its deltas at all sites. The command is followed by forms alone, and none is made of its
-/// transform.
-///
-/// No constant and no factor that is met in the forms of its tests, in their differences, in what it assigns, writes and
-/// prints and in what it leaves may be above 4 * 10^18 in size, with partial sums and products from left to right, and no number
-/// of the base.
-///
-/// # Errors
-///
-/// `Memory` when out of memory.
-pub fn follow_at(alloc: Global, command: &LCommand, base: &Database) -> Result<PlanPart, Memory>
-    requires can { CanBeFollowed (IsSmall form_limit) (object_forms (values_of base.now.items)) (plain_lcommand command.now) }
-    requires left { AreNumbers (IsSmall form_limit) (followed (values_of base.now.items) (plain_lcommand command.now)).forms }
-    requires base { (x : ℕ) → IsSmall form_limit (values_of base.now.items x) }
-    ensures { IfOk result (λ p. plain_part p ≡ brought (values_of base.now.items) (plain_lcommand command.now)) }
-{
-    let mut follower = Follower::new(alloc, base);
-    follower.part(alloc, command)
-}
-
 /// Follows commands at a base, one after another.
 #[derive(Drop)]
 pub struct Follower<'a> {
@@ -213,7 +192,13 @@ impl<'a> Follower<'a> {
         }
     }
 
-    /// What a command brings, as `follow_at` says.
+    /// What a command over whole objects brings, followed along the branch that it takes at the base (this project's rule): an
+    /// object is its base with its delta, which stands for its deltas at all sites. The command is followed by forms alone, and none
+    /// is made of its transform.
+    ///
+    /// No constant and no factor that is met in the forms of its tests, in their differences, in what it assigns, writes and
+    /// prints and in what it leaves may be above 4 * 10^18 in size, with partial sums and products from left to right, and no
+    /// number of the base.
     ///
     /// # Errors
     ///
