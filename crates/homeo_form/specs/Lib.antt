@@ -1,6 +1,5 @@
 pub mod Checked
 pub mod Key
-pub mod Moved
 pub mod Objects
 pub mod Standing
 pub mod inner

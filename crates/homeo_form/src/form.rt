@@ -1,13 +1,13 @@
 //! Linear forms, their sums and products.
 
-ghost use Rattle.std.specs.Prelude.{◌≡◌, ◌↔◌, IsTrue, pos, negsuc, IfOk};
+ghost use Rattle.std.specs.Prelude.{◌≡◌, ◌↔◌, IsTrue, ℤ, pos, negsuc, [], IfOk, OnOk};
 ghost use Rattle.homeo_meaning.specs.Small.{IsSmall};
 ghost use Rattle.homeo_plan.specs.FormSizes.{Numbers};
-ghost use Rattle.homeo_plan.specs.Linear.{AreInOrder, constant_form, delta_form, add_forms, scale_form, multiply_forms, mix_forms, is_pure, support};
+ghost use Rattle.homeo_plan.specs.Linear.{AreInOrder, constant_form, delta_form, add_forms, scale_form, multiply_forms, mix_forms, is_pure, add_deltas, support};
 ghost use Rattle.homeo_plan.specs.PlanView.{plain_linear};
 ghost use Rattle.homeo_plan.specs.Limit.{form_limit};
-ghost use Rattle.homeo_follow.specs.Follow.{object_form};
-ghost use Rattle.homeo_form.specs.Moved.{IsMoved};
+ghost use Rattle.homeo_follow.specs.Follow.{object_form, gain};
+ghost use Rattle.homeo_form.specs.inner.Moved.{IsMoved};
 ghost use Rattle.homeo_form.specs.inner.Terms.{term_form, beside};
 
 mod running;
@@ -235,7 +235,7 @@ impl Form {
     }
 
     /// Whether the form is that of the object with some base.
-    pub(crate) fn is_moved(&self, object: u32) -> bool
+    fn is_moved(&self, object: u32) -> bool
         ensures { IsTrue result → IsMoved object self.now }
     {
         terms::is_delta(self.terms.as_slice(), Delta { object, site: 0 })
@@ -265,6 +265,40 @@ impl Form {
         let mut deltas = Vec::from_slice(alloc, self.mixed.as_slice())?;
         push_deltas_of(&mut deltas, self.terms.as_slice())?;
         deltas::in_order(alloc, deltas)
+    }
+
+    /// Puts each delta of the form, mixed or not, behind others, in no order. Put in order, each once, they are the others with
+    /// those of the form among them.
+    ///
+    /// # Errors
+    ///
+    /// `Memory` when out of memory.
+    pub fn push_deltas(&self, deltas: &mut Vec<Delta>) -> Result<(), Memory>
+        ensures { OnOk result (add_deltas deltas.new.items [] ≡ add_deltas (support self.now) (add_deltas deltas.old.items [])) }
+    {
+        deltas.extend_from_slice(self.mixed.as_slice())?;
+        push_deltas_of(deltas, self.terms.as_slice())
+    }
+
+    /// Puts each delta on which the gain of an object depends, where the form is written to it, behind others, as `push_deltas`
+    /// does. A gain that is a number depends on none.
+    pub(crate) fn push_gain(
+        &self,
+        alloc: Global,
+        object: u32,
+        deltas: &mut Vec<Delta>,
+    ) -> Result<(), Memory>
+        requires { Numbers (IsSmall form_limit) self.now }
+        ensures { OnOk result ((n : ℤ) →
+            add_deltas deltas.new.items [] ≡ add_deltas (support (gain n object self.now)) (add_deltas deltas.old.items [])) }
+    {
+        if self.is_moved(object) {
+            return Ok(());
+        }
+        let delta = Delta { object, site: 0 };
+        let terms = terms::with_one_less(alloc, self.terms.as_slice(), delta)?;
+        deltas.extend_from_slice(self.mixed.as_slice())?;
+        push_deltas_of(deltas, terms.as_slice())
     }
 
     /// The value where all deltas are 0.
