@@ -14,12 +14,13 @@ use Rattle.homeo_follow.specs.Key.{definitions as follow_definitions}
 use Rattle.homeo_follow.specs.Follow.{object_delta, object_form, gain}
 use Rattle.homeo_form.specs.Key.{definitions}
 use Rattle.homeo_form.specs.inner.Moved.{IsMoved}
+use Rattle.homeo_form.specs.inner.Order.{IsInOrder}
 use Rattle.homeo_form.specs.inner.Terms.{AreSmall, AreAddedUp, term_form}
 use Rattle.homeo_plan.proofs.DeltaLists.{in_order_adds}
 use Rattle.homeo_plan.proofs.Factors.{same_delta_refl}
 use Rattle.homeo_form.proofs.Adding.{order_adds, order_scale}
 use Rattle.homeo_form.proofs.DeltasInOrder.{in_order_kept as deltas_kept, adds_append as deltas_append, adds_into as deltas_into, adds_swap as deltas_swap}
-use Rattle.homeo_form.proofs.TermsAddedUp.{count_adds, count_scale, in_order_kept as terms_kept, adds_append as terms_append}
+use Rattle.homeo_form.proofs.TermsAddedUp.{turned_apart, turned_adds, count_adds, count_scale, in_order_kept as terms_kept, adds_append as terms_append}
 
 abbrev pub form_of : ℤ → List Term → List Delta → Linear
 form_of n ts ds = record { constant = n; terms = ts; mixed = ds }
@@ -91,6 +92,29 @@ one_small t h = (h, tt)
 
 pub terms_in_order : (ts xs : List Term) → xs ≡ ts → AreAddedUp ts → AreInOrder (deltas_of xs)
 terms_in_order ts xs p o = subst (λ l. AreInOrder (deltas_of l)) (sym p) o.order
+
+pub order_is : (a : Linear) (n : ℤ) (ts : List Term) (ds : List Delta) → form_of n ts ds ≡ a → AreFormParts ts ds → IsInOrder a
+unfolding definitions
+order_is a n ts ds e o = subst IsInOrder e (o.0.order, o.1)
+
+-- ---- differences with their sign turned
+turned_difference : (a b : Linear) → IsInOrder a → IsInOrder b → scale_form (negsuc 0) (add_forms a (scale_form (negsuc 0) b)) ≡ add_forms b (scale_form (negsuc 0) a)
+unfolding definitions plan_definitions
+turned_difference a b o p = λ i. record {
+  constant = turned_apart a.constant b.constant i;
+  terms = turned_adds a.terms b.terms o.0 p.0 i;
+  mixed = deltas_swap a.mixed b.mixed o.1 p.1 i;
+}
+
+pub turned_back :
+    (a b x y f : Linear) → f ≡ add_forms a (scale_form (negsuc 0) b) → x ≡ a → y ≡ b → IsInOrder x → IsInOrder y →
+    scale_form (negsuc 0) f ≡ add_forms b (scale_form (negsuc 0) a)
+turned_back a b x y f e p q o r =
+    ap (scale_form (negsuc 0)) e ∙ turned_difference a b (subst IsInOrder p o) (subst IsInOrder q r)
+
+pub number_in_order : (n : ℤ) → IsInOrder (constant_form n)
+unfolding definitions plan_definitions
+number_in_order n = (tt, tt)
 
 -- ---- what forms are
 pub number_is : (z n : ℤ) (ts : List Term) (ds : List Delta) → z ≡ n → ts ≡ [] → ds ≡ [] → form_of z ts ds ≡ constant_form n

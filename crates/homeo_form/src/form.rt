@@ -8,6 +8,7 @@ ghost use Rattle.homeo_plan.specs.PlanView.{plain_linear};
 ghost use Rattle.homeo_plan.specs.Limit.{form_limit};
 ghost use Rattle.homeo_follow.specs.Follow.{object_form, gain};
 ghost use Rattle.homeo_form.specs.inner.Moved.{IsMoved};
+ghost use Rattle.homeo_form.specs.inner.Order.{IsInOrder};
 ghost use Rattle.homeo_form.specs.inner.Terms.{term_form, beside};
 
 mod running;
@@ -168,7 +169,7 @@ impl Form {
     }
 
     /// The form with its sign turned.
-    pub(crate) fn negated(self) -> Form
+    pub fn negated(self) -> Form
         requires small { Numbers (IsSmall form_limit) self }
         ensures { result ≡ scale_form (negsuc 0) self }
     {
@@ -179,6 +180,13 @@ impl Form {
             terms,
             mixed: self.mixed,
         }
+    }
+
+    /// The terms and the mixed deltas of each form are in order.
+    pub(crate) fn in_order(&self)
+        ensures { IsInOrder self.now }
+    {
+        let _ = &self.terms;
     }
 
     /// The form with its numbers multiplied.
