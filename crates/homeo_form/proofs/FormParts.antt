@@ -202,7 +202,7 @@ no_length (x ∷ xs) = one_more (length xs)
     one_more : (n : ℕ) → (suc n == 0) ≡ false
     one_more n = grind (arith, nat_tests)
 
-no_items : {X : Type 0} (xs : List X) → true ≡ (length xs == 0) → xs ≡ []
+pub no_items : {X : Type 0} (xs : List X) → true ≡ (length xs == 0) → xs ≡ []
 unfolding plan_definitions
 no_items [] h = refl
 no_items (x ∷ xs) h = absurd (true≢false (h ∙ no_length (x ∷ xs)))

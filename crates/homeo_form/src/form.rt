@@ -114,7 +114,7 @@ impl Form {
         Ok(Form {
             constant: self.constant,
             terms: Vec::from_slice(alloc, self.terms.as_slice())?,
-            mixed: Vec::from_slice(alloc, self.mixed.as_slice())?,
+            mixed: deltas::copied(alloc, self.mixed.as_slice())?,
         })
     }
 
@@ -202,7 +202,7 @@ impl Form {
         Ok(Form {
             constant: multiplied(factor, self.constant),
             terms: terms::scaled(alloc, factor, self.terms.as_slice())?,
-            mixed: Vec::from_slice(alloc, self.mixed.as_slice())?,
+            mixed: deltas::copied(alloc, self.mixed.as_slice())?,
         })
     }
 
@@ -270,7 +270,7 @@ impl Form {
         ensures value { IfOk result (λ v. v.items ≡ support self.now) }
         ensures order { IfOk result (λ v. AreInOrder v.items) }
     {
-        let mut deltas = Vec::from_slice(alloc, self.mixed.as_slice())?;
+        let mut deltas = deltas::copied(alloc, self.mixed.as_slice())?;
         push_deltas_of(&mut deltas, self.terms.as_slice())?;
         deltas::in_order(alloc, deltas)
     }
@@ -284,7 +284,7 @@ impl Form {
     pub fn push_deltas(&self, deltas: &mut Vec<Delta>) -> Result<(), Memory>
         ensures { OnOk result (add_deltas deltas.new.items [] ≡ add_deltas (support self.now) (add_deltas deltas.old.items [])) }
     {
-        deltas.extend_from_slice(self.mixed.as_slice())?;
+        deltas::push_all(deltas, self.mixed.as_slice())?;
         push_deltas_of(deltas, self.terms.as_slice())
     }
 
@@ -305,7 +305,7 @@ impl Form {
         }
         let delta = Delta { object, site: 0 };
         let terms = terms::with_one_less(alloc, self.terms.as_slice(), delta)?;
-        deltas.extend_from_slice(self.mixed.as_slice())?;
+        deltas::push_all(deltas, self.mixed.as_slice())?;
         push_deltas_of(deltas, terms.as_slice())
     }
 
@@ -404,7 +404,7 @@ impl Total {
         let mut terms = self.terms;
         let mut mixed = self.mixed;
         terms.extend_from_slice(form.terms.as_slice())?;
-        mixed.extend_from_slice(form.mixed.as_slice())?;
+        deltas::push_all(&mut mixed, form.mixed.as_slice())?;
         Ok(Total {
             constant: added(form.constant, self.constant),
             terms,

@@ -19,5 +19,5 @@ pub returns : goal.returns
 returns c =
     on_ok_weaker c.push_deltas_of.result
     (λ h n. gain_pushed c.args.self.now c.args.object n _ c.self.inside.terms.items _ _ _ c.self.inside.mixed.items _ _ _ _ c.self.view_is
-    c.in_ok-terms.ensures c.as_slice.ensures.value c.in_ok-extend_from_slice.ensures.items c.as_slice-2.ensures.value h c.as_slice-3.ensures.value)
+    c.in_ok-terms.ensures c.as_slice.ensures.value c.in_ok-push_all.ensures c.as_slice-2.ensures.value h c.as_slice-3.ensures.value)
     c.push_deltas_of.ensures
