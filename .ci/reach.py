@@ -366,14 +366,9 @@ def misplaced(reach):
     return [f"{'unreached' if it not in found else 'reached'}: {it.module}.{it.name}" for it in every if (it in found) == (".specs.inner." in it.module)]
 
 
-# It says nothing, and stands at the wrong place: specs/Objects cites it. To move it proves most crates again (README.md says so).
-KEY_TO_MOVE = "Rattle.homeo_form.specs.inner.Key.definitions"
-
-
 def inner_reached(reach):
-    """Each definition of specs/inner/ that a caller has to believe, but for the key that is to move."""
-    found = sorted(f"{it.module}.{it.name}" for it in reach.of_callers() if ".specs.inner." in it.module)
-    return [it for it in found if it != KEY_TO_MOVE]
+    """Each definition of specs/inner/ that a caller has to believe."""
+    return sorted(f"{it.module}.{it.name}" for it in reach.of_callers() if ".specs.inner." in it.module)
 
 
 def inner_taken(reach):

@@ -15,7 +15,7 @@ use Rattle.homeo_plan.specs.Linear.{AreInOrder, same_delta, delta_before, deltas
 use Rattle.homeo_plan.specs.declared.forms.Delta.{Delta}
 use Rattle.homeo_plan.specs.declared.forms.Term.{Term}
 use Rattle.homeo_plan.specs.Limit.{form_limit}
-use Rattle.homeo_form.specs.inner.Key.{definitions}
+use Rattle.homeo_form.specs.Key.{definitions}
 use Rattle.homeo_form.specs.inner.Order.{BeginsBehind, IsPlace, begins_with}
 use Rattle.homeo_form.specs.inner.Terms.{AreWithin, AreSmall, AllCount, AreAddedUp, sum_limit, add_at}
 use Rattle.homeo_plan.proofs.DeltaLists.{After, after_before}

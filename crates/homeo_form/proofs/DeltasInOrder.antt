@@ -5,7 +5,7 @@ use Rattle.std.proofs.lemmas.List.Sorted.{list_any-IsPermutation}
 use Rattle.homeo_plan.specs.Key.{definitions as plan_definitions}
 use Rattle.homeo_plan.specs.Linear.{AreInOrder, same_delta, delta_before, add_delta, add_deltas}
 use Rattle.homeo_plan.specs.declared.forms.Delta.{Delta}
-use Rattle.homeo_plan.proofs.DeltaLists.{has, has_adds, after_before, in_order_adds, same_deltas}
+use Rattle.homeo_plan.proofs.DeltaLists.{has, has_adds, or_move, after_before, in_order_adds, same_deltas}
 
 pub or_none : (b : Bool) → (b || false) ≡ b
 or_none true = refl
@@ -35,6 +35,14 @@ pub adds_swap : (ds es : List Delta) → AreInOrder ds → AreInOrder es → add
 adds_swap ds es o p =
     same_deltas (add_deltas ds es) (add_deltas es ds) (in_order_adds ds es p) (in_order_adds es ds o)
     (λ d. has_adds d ds es ∙ or_comm (has d ds) (has d es) ∙ sym (has_adds d es ds))
+
+-- deltas put into others that are put into more
+pub adds_into : (ds es fs : List Delta) → AreInOrder fs → add_deltas ds (add_deltas es fs) ≡ add_deltas (add_deltas ds es) fs
+adds_into ds es fs o =
+    same_deltas (add_deltas ds (add_deltas es fs)) (add_deltas (add_deltas ds es) fs) (in_order_adds ds (add_deltas es fs) (in_order_adds es fs o))
+    (in_order_adds (add_deltas ds es) fs o)
+    (λ d. has_adds d ds (add_deltas es fs) ∙ ap (λ v. has d ds || v) (has_adds d es fs) ∙ or_move (has d ds) (has d es) (has d fs)
+    ∙ ap (λ v. v || has d fs) (or_comm (has d es) (has d ds)) ∙ sym (has_adds d (add_deltas ds es) fs ∙ ap (λ v. v || has d fs) (has_adds d ds es)))
 
 pub adds_append : (ds es fs : List Delta) → add_deltas (ds ++ es) fs ≡ add_deltas es (add_deltas ds fs)
 unfolding plan_definitions

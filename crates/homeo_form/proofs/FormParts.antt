@@ -1,24 +1,26 @@
 -- Forms from their parts: a number, lists of terms and of mixed deltas in order.
-use Rattle.std.proofs.Common.{◌≡◌, ℕ, ◌==◌, suc, Bool, true, false, cond, ◌&&◌, List, [], ◌∷◌, ◌++◌, length, ℤ, pos, ◌+ℤ◌, ◌*ℤ◌, refl, sym, ap, ap₂, ◌∙◌, subst, true≢false, arith}
+use Rattle.std.proofs.Common.{◌≡◌, ℕ, ◌==◌, suc, Bool, true, false, cond, ◌&&◌, List, [], ◌∷◌, ◌++◌, length, ℤ, pos, negsuc, ◌+ℤ◌, ◌*ℤ◌, refl, sym, ap, ap₂, ◌∙◌, subst, true≢false, arith}
 use Rattle.std.proofs.Math.IntN.{+ℤ_idl}
 use Rattle.std.proofs.lemmas.Bool.Decides.{nat_tests}
 use Rattle.std.proofs.lemmas.Int.{ints}
 use Rattle.homeo_meaning.specs.Small.{IsSmall}
 use Rattle.homeo_plan.specs.Key.{definitions as plan_definitions}
 use Rattle.homeo_plan.specs.FormSizes.{Numbers}
-use Rattle.homeo_plan.specs.Linear.{AreInOrder, Linear, deltas_of, add_deltas, add_term, add_terms, scale_terms, constant_form, delta_form, add_forms, scale_form, multiply_forms, mix_forms, is_empty, is_pure, support}
+use Rattle.homeo_plan.specs.Linear.{AreInOrder, Linear, delta_before, deltas_of, with_term, add_deltas, add_term, add_terms, scale_terms, constant_form, delta_form, add_forms, scale_form, multiply_forms, mix_forms, is_empty, is_pure, support}
 use Rattle.homeo_plan.specs.declared.forms.Delta.{Delta}
 use Rattle.homeo_plan.specs.declared.forms.Term.{Term}
 use Rattle.homeo_plan.specs.Limit.{form_limit}
 use Rattle.homeo_follow.specs.Key.{definitions as follow_definitions}
-use Rattle.homeo_follow.specs.Follow.{object_form}
-use Rattle.homeo_form.specs.inner.Key.{definitions}
-use Rattle.homeo_form.specs.Moved.{IsMoved}
+use Rattle.homeo_follow.specs.Follow.{object_delta, object_form, gain}
+use Rattle.homeo_form.specs.Key.{definitions}
+use Rattle.homeo_form.specs.inner.Moved.{IsMoved}
+use Rattle.homeo_form.specs.inner.Order.{IsInOrder}
 use Rattle.homeo_form.specs.inner.Terms.{AreSmall, AreAddedUp, term_form}
 use Rattle.homeo_plan.proofs.DeltaLists.{in_order_adds}
+use Rattle.homeo_plan.proofs.Factors.{same_delta_refl}
 use Rattle.homeo_form.proofs.Adding.{order_adds, order_scale}
-use Rattle.homeo_form.proofs.DeltasInOrder.{in_order_kept as deltas_kept, adds_append as deltas_append, adds_swap as deltas_swap}
-use Rattle.homeo_form.proofs.TermsAddedUp.{count_adds, count_scale, in_order_kept as terms_kept, adds_append as terms_append}
+use Rattle.homeo_form.proofs.DeltasInOrder.{in_order_kept as deltas_kept, adds_append as deltas_append, adds_into as deltas_into, adds_swap as deltas_swap}
+use Rattle.homeo_form.proofs.TermsAddedUp.{turned_apart, turned_adds, count_adds, count_scale, in_order_kept as terms_kept, adds_append as terms_append}
 
 abbrev pub form_of : ℤ → List Term → List Delta → Linear
 form_of n ts ds = record { constant = n; terms = ts; mixed = ds }
@@ -87,6 +89,32 @@ both_small ts us vs p h k = subst AreSmall (sym p) (small_append ts us h k)
 pub one_small : (t : Term) → IsSmall form_limit t.factor → AreSmall (t ∷ [])
 unfolding definitions plan_definitions
 one_small t h = (h, tt)
+
+pub terms_in_order : (ts xs : List Term) → xs ≡ ts → AreAddedUp ts → AreInOrder (deltas_of xs)
+terms_in_order ts xs p o = subst (λ l. AreInOrder (deltas_of l)) (sym p) o.order
+
+pub order_is : (a : Linear) (n : ℤ) (ts : List Term) (ds : List Delta) → form_of n ts ds ≡ a → AreFormParts ts ds → IsInOrder a
+unfolding definitions
+order_is a n ts ds e o = subst IsInOrder e (o.0.order, o.1)
+
+-- ---- differences with their sign turned
+turned_difference : (a b : Linear) → IsInOrder a → IsInOrder b → scale_form (negsuc 0) (add_forms a (scale_form (negsuc 0) b)) ≡ add_forms b (scale_form (negsuc 0) a)
+unfolding definitions plan_definitions
+turned_difference a b o p = λ i. record {
+  constant = turned_apart a.constant b.constant i;
+  terms = turned_adds a.terms b.terms o.0 p.0 i;
+  mixed = deltas_swap a.mixed b.mixed o.1 p.1 i;
+}
+
+pub turned_back :
+    (a b x y f : Linear) → f ≡ add_forms a (scale_form (negsuc 0) b) → x ≡ a → y ≡ b → IsInOrder x → IsInOrder y →
+    scale_form (negsuc 0) f ≡ add_forms b (scale_form (negsuc 0) a)
+turned_back a b x y f e p q o r =
+    ap (scale_form (negsuc 0)) e ∙ turned_difference a b (subst IsInOrder p o) (subst IsInOrder q r)
+
+pub number_in_order : (n : ℤ) → IsInOrder (constant_form n)
+unfolding definitions plan_definitions
+number_in_order n = (tt, tt)
 
 -- ---- what forms are
 pub number_is : (z n : ℤ) (ts : List Term) (ds : List Delta) → z ≡ n → ts ≡ [] → ds ≡ [] → form_of z ts ds ≡ constant_form n
@@ -174,7 +202,7 @@ no_length (x ∷ xs) = one_more (length xs)
     one_more : (n : ℕ) → (suc n == 0) ≡ false
     one_more n = grind (arith, nat_tests)
 
-no_items : {X : Type 0} (xs : List X) → true ≡ (length xs == 0) → xs ≡ []
+pub no_items : {X : Type 0} (xs : List X) → true ≡ (length xs == 0) → xs ≡ []
 unfolding plan_definitions
 no_items [] h = refl
 no_items (x ∷ xs) h = absurd (true≢false (h ∙ no_length (x ∷ xs)))
@@ -238,3 +266,39 @@ support_is a n ts xs ds es ys fs e p x q q' =
 pub support_in_order : (ds es : List Delta) → es ≡ add_deltas ds [] → AreInOrder es
 unfolding plan_definitions
 support_in_order ds es p = subst AreInOrder (sym p) (in_order_adds ds [] tt)
+
+-- deltas of a form behind others
+pub pushed_is :
+    (a : Linear) (n : ℤ) (ts xs : List Term) (ds ys es fs gs : List Delta) → form_of n ts ds ≡ a → fs ≡ es ++ ys → ys ≡ ds →
+    gs ≡ fs ++ deltas_of xs → xs ≡ ts → add_deltas gs [] ≡ add_deltas (support a) (add_deltas es [])
+unfolding plan_definitions
+pushed_is a n ts xs ds ys es fs gs e p q r x =
+    ap (λ l. add_deltas l []) r ∙ deltas_append fs (deltas_of xs) []
+    ∙ ap₂ (λ l m. add_deltas (deltas_of l) m) x (ap (λ l. add_deltas l []) p ∙ deltas_append es ys [] ∙ ap (λ l. add_deltas l (add_deltas es [])) q)
+    ∙ deltas_into (deltas_of ts) ds (add_deltas es []) (in_order_adds es [] tt)
+    ∙ ap (λ b. add_deltas (support b) (add_deltas es [])) e
+
+-- a gain that is a number has none
+moved_gain : (n : ℤ) (x : ℕ) (a : Linear) → IsMoved x a → support (gain n x a) ≡ []
+unfolding plan_definitions follow_definitions
+moved_gain n x a h =
+    let d : Delta = object_delta x in
+    let t : Term = record { delta = d; factor = pos 1 } in
+    ap (λ b. support (gain n x b)) h
+    ∙ ap (λ v. add_deltas (deltas_of (cond v (with_term d (negsuc 0 +ℤ pos 1) []) (cond (delta_before d d) (with_term d (negsuc 0) (t ∷ [])) (t ∷ add_term d (negsuc 0) [])))) [])
+    (same_delta_refl d)
+
+pub moved_pushed : (n : ℤ) (x : ℕ) (a : Linear) (ds : List Delta) → IsMoved x a → ds ≡ add_deltas (support (gain n x a)) ds
+unfolding plan_definitions
+moved_pushed n x a ds h = sym (ap (λ l. add_deltas l ds) (moved_gain n x a h))
+
+-- those of what an object gains, where the form is written to it
+pub gain_pushed :
+    (a : Linear) (x : ℕ) (k n : ℤ) (ts xs ls ms : List Term) (ds ys es fs gs : List Delta) → form_of n ts ds ≡ a →
+    ls ≡ add_term (record { object = x; site = 0 }) (negsuc 0) xs → xs ≡ ts → fs ≡ es ++ ys → ys ≡ ds → gs ≡ fs ++ deltas_of ms → ms ≡ ls →
+    add_deltas gs [] ≡ add_deltas (support (gain k x a)) (add_deltas es [])
+unfolding plan_definitions follow_definitions
+gain_pushed a x k n ts xs ls ms ds ys es fs gs e l w p q r m =
+    pushed_is (gain k x (form_of n ts ds)) _ (add_term (record { object = x; site = 0 }) (negsuc 0) ts) ms ds ys es fs gs refl p q r
+    (m ∙ l ∙ ap (add_term (record { object = x; site = 0 }) (negsuc 0)) w)
+    ∙ ap (λ b. add_deltas (support (gain k x b)) (add_deltas es [])) e

@@ -6,7 +6,7 @@ use Rattle.std.specs.declared.option.Option.TheVariants.{None, Some}
 use Rattle.homeo_plan.specs.Linear.{Linear}
 use Rattle.homeo_form.specs.declared.objects.ObjectForm.{ObjectForm}
 use Rattle.homeo_form.specs.declared.objects.ObjectForms.{ObjectForms}
-use Rattle.homeo_form.specs.inner.Key.{definitions}
+use Rattle.homeo_form.specs.Key.{definitions}
 use Rattle.homeo_form.specs.Objects.{form_there, place_in, form_in}
 
 abbrev pub some : ℕ → Linear → ObjectForm

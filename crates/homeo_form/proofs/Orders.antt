@@ -9,7 +9,7 @@ use Rattle.homeo_plan.specs.Linear.{AreInOrder, same_delta, delta_before, add_de
 use Rattle.homeo_plan.specs.declared.forms.Delta.{Delta}
 use Rattle.homeo_plan.proofs.DeltaLists.{in_order_add}
 use Rattle.homeo_plan.proofs.Factors.{before_trans, before_total}
-use Rattle.homeo_form.specs.inner.Key.{definitions}
+use Rattle.homeo_form.specs.Key.{definitions}
 use Rattle.homeo_form.specs.inner.Order.{BeginsBehind, IsPlace, begins_with}
 
 -- ---- the order

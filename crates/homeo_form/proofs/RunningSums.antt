@@ -17,7 +17,7 @@ use Rattle.homeo_plan.specs.Limit.{form_limit}
 use Rattle.homeo_plan.specs.Linear.{AreInOrder, Linear, same_delta, deltas_of, add_terms, add_deltas, add_forms}
 use Rattle.homeo_plan.specs.declared.forms.Delta.{Delta}
 use Rattle.homeo_plan.specs.declared.forms.Term.{Term}
-use Rattle.homeo_form.specs.inner.Key.{definitions}
+use Rattle.homeo_form.specs.Key.{definitions}
 use Rattle.homeo_form.specs.inner.Running.{DeltaKey, key_cmp, key_of, Factors, factor_in, factor_with, IsRunning}
 use Rattle.homeo_form.specs.inner.Terms.{AreSmall, share, factor_at}
 use Rattle.homeo_form.proofs.Adding.{order_adds}

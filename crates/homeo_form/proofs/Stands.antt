@@ -17,7 +17,7 @@ use Rattle.homeo_follow.specs.Follow.{object_forms}
 use Rattle.homeo_split.specs.contracts.places.PlacePartialEq.TheImpl.{ghosts}
 use Rattle.homeo_split.specs.declared.places.Place.{Place}
 use Rattle.homeo_split.specs.declared.places.Place.TheVariants.{Named, Fresh, Base, Delta}
-use Rattle.homeo_form.specs.inner.Key.{definitions}
+use Rattle.homeo_form.specs.Key.{definitions}
 use Rattle.homeo_split.specs.Places.{plain_place}
 use Rattle.homeo_split.proofs.SamePlaces.{is_at, at_each_place, same-places}
 use Rattle.homeo_form.specs.Objects.{form_in}

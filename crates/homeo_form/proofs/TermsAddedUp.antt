@@ -1,6 +1,6 @@
 -- Terms put together: the sums of the factors of each delta say all of a list in order without factors of 0, so that it matters
 -- not in which order terms are added.
-use Rattle.std.proofs.Common.{◌≡◌, ◌+◌, ℕ, suc, All, Bool, true, false, cond, List, [], ◌∷◌, ◌++◌, sum_by, ℤ, pos, ◌+ℤ◌, ◌-ℤ◌, ◌*ℤ◌, refl, sym, ap, ap₂, ◌∙◌, arith}
+use Rattle.std.proofs.Common.{◌≡◌, ◌+◌, ℕ, suc, All, Bool, true, false, cond, List, [], ◌∷◌, ◌++◌, sum_by, ℤ, pos, negsuc, ◌+ℤ◌, ◌-ℤ◌, ◌*ℤ◌, refl, sym, ap, ap₂, ◌∙◌, arith}
 use borrow.Author.Differences.{up, down}
 use Rattle.std.specs.List.Sorted.{IsPermutation}
 use Rattle.std.specs.Ordering.{int_eq}
@@ -15,11 +15,11 @@ use Rattle.homeo_plan.specs.Linear.{AreInOrder, same_delta, delta_before, deltas
 use Rattle.homeo_plan.specs.declared.forms.Delta.{Delta}
 use Rattle.homeo_plan.specs.declared.forms.Term.{Term}
 use Rattle.homeo_plan.specs.Limit.{form_limit}
-use Rattle.homeo_form.specs.inner.Key.{definitions}
+use Rattle.homeo_form.specs.Key.{definitions}
 use Rattle.homeo_form.specs.inner.Terms.{AllCount, AreSmall, share, factor_at}
 use Rattle.homeo_plan.proofs.DeltaLists.{After, after_before}
 use Rattle.homeo_form.proofs.Orders.{each_at}
-use Rattle.homeo_form.proofs.Adding.{order_adds}
+use Rattle.homeo_form.proofs.Adding.{order_adds, order_scale}
 use Rattle.homeo_plan.proofs.Factors.{same_delta_is, same_delta_refl, before_is_other, before_total}
 
 -- ---- numbers
@@ -215,6 +215,37 @@ pub adds_append : (ts us vs : List Term) → add_terms (ts ++ us) vs ≡ add_ter
 unfolding plan_definitions
 adds_append [] us vs = refl
 adds_append (t ∷ ts) us vs = adds_append ts us (add_term t.delta t.factor vs)
+
+-- ---- signs turned
+share_turned : (b : Bool) (f : ℤ) → cond b (negsuc 0 *ℤ f) (pos 0) ≡ negsuc 0 *ℤ cond b f (pos 0)
+share_turned true f = refl
+share_turned false f = omega (arith, ints)
+
+turned_sum : (x y : ℤ) → (negsuc 0 *ℤ x) +ℤ (negsuc 0 *ℤ y) ≡ negsuc 0 *ℤ (x +ℤ y)
+turned_sum x y = omega (arith, ints)
+
+at_turned : (d : Delta) (ts : List Term) → factor_at d (scale_terms (negsuc 0) ts) ≡ negsuc 0 *ℤ factor_at d ts
+unfolding definitions plan_definitions
+at_turned d [] = omega (arith, ints)
+at_turned d (t ∷ ts) =
+    at_with d t.delta (negsuc 0 *ℤ t.factor) (scale_terms (negsuc 0) ts)
+    ∙ ap₂ (λ x y. x +ℤ y) (share_turned (same_delta d t.delta) t.factor) (at_turned d ts) ∙ turned_sum (share d t.delta t.factor) (factor_at d ts)
+
+pub turned_apart : (x y : ℤ) → negsuc 0 *ℤ (x +ℤ (negsuc 0 *ℤ y)) ≡ y +ℤ (negsuc 0 *ℤ x)
+turned_apart x y = omega (arith, ints)
+
+pub turned_adds : (ts us : List Term) → AreInOrder (deltas_of ts) → AreInOrder (deltas_of us) →
+    scale_terms (negsuc 0) (add_terms ts (scale_terms (negsuc 0) us)) ≡ add_terms us (scale_terms (negsuc 0) ts)
+turned_adds ts us o p =
+    let apart = add_terms ts (scale_terms (negsuc 0) us) in
+    same_terms (scale_terms (negsuc 0) apart) (add_terms us (scale_terms (negsuc 0) ts))
+    (order_scale (negsuc 0) apart (order_adds ts (scale_terms (negsuc 0) us) (order_scale (negsuc 0) us p)))
+    (order_adds us (scale_terms (negsuc 0) ts) (order_scale (negsuc 0) ts o)) (count_scale (negsuc 0) apart)
+    (count_adds us (scale_terms (negsuc 0) ts) (count_scale (negsuc 0) ts))
+    (λ d. at_turned d apart
+    ∙ ap (λ z. negsuc 0 *ℤ z) (at_adds d ts (scale_terms (negsuc 0) us) ∙ ap (λ z. factor_at d ts +ℤ z) (at_turned d us))
+    ∙ turned_apart (factor_at d ts) (factor_at d us)
+    ∙ sym (at_adds d us (scale_terms (negsuc 0) ts) ∙ ap (λ z. factor_at d us +ℤ z) (at_turned d ts)))
 
 -- ---- small factors
 each_of : {X : Type 0} (P : X → Type 0) (xs : List X) → All P xs → Each P xs

@@ -1,5 +1,5 @@
 pub mod Checked
-pub mod Moved
+pub mod Key
 pub mod Objects
 pub mod Standing
 pub mod inner

@@ -5,7 +5,7 @@ use Rattle.std.specs.declared.option.Option.TheVariants.{None, Some}
 use Rattle.homeo_plan.specs.Linear.{Linear}
 use Rattle.homeo_form.specs.declared.objects.ObjectForm.{ObjectForm}
 use Rattle.homeo_form.specs.declared.objects.ObjectForms.{ObjectForms}
-use Rattle.homeo_form.specs.inner.Key.{definitions}
+use Rattle.homeo_form.specs.Key.{definitions}
 
 -- the form at place n, where it is that of the object x
 abbrev pub form_there : ℕ → ℕ → List ObjectForm → Option Linear

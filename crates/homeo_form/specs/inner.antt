@@ -1,5 +1,5 @@
 pub mod Items
-pub mod Key
+pub mod Moved
 pub mod Order
 pub mod Running
 pub mod Terms

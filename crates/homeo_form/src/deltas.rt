@@ -112,6 +112,26 @@ pub fn in_order(alloc: Global, deltas: Vec<Delta>) -> Result<Vec<Delta>, Memory>
     collected(alloc, sorted.as_slice())
 }
 
+/// A copy of deltas. Most often there are none.
+pub(crate) fn copied(alloc: Global, deltas: &[Delta]) -> Result<Vec<Delta>, Memory>
+    ensures { IfOk result (λ v. v.items ≡ deltas.now) }
+{
+    let mut copy = Vec::new(alloc);
+    push_all(&mut copy, deltas)?;
+    Ok(copy)
+}
+
+/// Puts deltas behind the others. Most often there are none.
+pub(crate) fn push_all(deltas: &mut Vec<Delta>, more: &[Delta]) -> Result<(), Memory>
+    ensures { OnOk result (deltas.new.items ≡ deltas.old.items ++ more.now) }
+{
+    if more.is_empty() {
+        return Ok(());
+    }
+    deltas.extend_from_slice(more)?;
+    Ok(())
+}
+
 /// Puts the deltas of terms behind the others.
 pub(crate) fn push_deltas_of(deltas: &mut Vec<Delta>, terms: &[Term]) -> Result<(), Memory>
     ensures { OnOk result (deltas.new.items ≡ deltas.old.items ++ deltas_of terms.now) }

@@ -82,8 +82,8 @@ fn product(alloc: Global, standing: &Standing, es: &[LExpr]) -> Result<Form, Mem
     Ok(total)
 }
 
-/// The form of the difference of two expressions. In neither, nor in the second with its sign turned, may there be a constant or
-/// a factor above 4 * 10^18 in size, as in `form`.
+/// The form of the difference of two expressions; with its sign turned it is that of the other difference. In neither expression,
+/// nor in the second with its sign turned, may there be a constant or a factor above 4 * 10^18 in size, as in `form`.
 ///
 /// # Errors
 ///
@@ -97,18 +97,24 @@ pub fn difference(
     requires left { CanForm (IsSmall form_limit) (forms_of standing.now) (plain_lexpr left.now) }
     requires right { CanForm (IsSmall form_limit) (forms_of standing.now) (plain_lexpr right.now) }
     requires negated { Numbers (IsSmall form_limit) (scale_form (negsuc 0) (form (forms_of standing.now) (plain_lexpr right.now))) }
-    ensures { IfOk result (λ f. f ≡ add_forms (form (forms_of standing.now) (plain_lexpr left.now))
+    ensures there { IfOk result (λ f. f ≡ add_forms (form (forms_of standing.now) (plain_lexpr left.now))
         (scale_form (negsuc 0) (form (forms_of standing.now) (plain_lexpr right.now)))) }
+    ensures back { IfOk result (λ f. scale_form (negsuc 0) f ≡ add_forms (form (forms_of standing.now) (plain_lexpr right.now))
+        (scale_form (negsuc 0) (form (forms_of standing.now) (plain_lexpr left.now)))) }
 {
     if let Some(n) = number_of(left) {
         let less = form(alloc, standing, right)?;
+        less.in_order();
         return Ok(less.negated().plus_number(n));
     }
     if let Some(n) = number_of(right) {
         let whole = form(alloc, standing, left)?;
+        whole.in_order();
         return Ok(whole.plus_number(multiplied(-1, n)));
     }
     let whole = form(alloc, standing, left)?;
     let less = form(alloc, standing, right)?;
+    whole.in_order();
+    less.in_order();
     whole.minus(alloc, less)
 }

@@ -1,13 +1,14 @@
 //! Linear forms, their sums and products.
 
-ghost use Rattle.std.specs.Prelude.{◌≡◌, ◌↔◌, IsTrue, pos, negsuc, IfOk};
+ghost use Rattle.std.specs.Prelude.{◌≡◌, ◌↔◌, IsTrue, ℤ, pos, negsuc, [], IfOk, OnOk};
 ghost use Rattle.homeo_meaning.specs.Small.{IsSmall};
 ghost use Rattle.homeo_plan.specs.FormSizes.{Numbers};
-ghost use Rattle.homeo_plan.specs.Linear.{AreInOrder, constant_form, delta_form, add_forms, scale_form, multiply_forms, mix_forms, is_pure, support};
+ghost use Rattle.homeo_plan.specs.Linear.{AreInOrder, constant_form, delta_form, add_forms, scale_form, multiply_forms, mix_forms, is_pure, add_deltas, support};
 ghost use Rattle.homeo_plan.specs.PlanView.{plain_linear};
 ghost use Rattle.homeo_plan.specs.Limit.{form_limit};
-ghost use Rattle.homeo_follow.specs.Follow.{object_form};
-ghost use Rattle.homeo_form.specs.Moved.{IsMoved};
+ghost use Rattle.homeo_follow.specs.Follow.{object_form, gain};
+ghost use Rattle.homeo_form.specs.inner.Moved.{IsMoved};
+ghost use Rattle.homeo_form.specs.inner.Order.{IsInOrder};
 ghost use Rattle.homeo_form.specs.inner.Terms.{term_form, beside};
 
 mod running;
@@ -113,7 +114,7 @@ impl Form {
         Ok(Form {
             constant: self.constant,
             terms: Vec::from_slice(alloc, self.terms.as_slice())?,
-            mixed: Vec::from_slice(alloc, self.mixed.as_slice())?,
+            mixed: deltas::copied(alloc, self.mixed.as_slice())?,
         })
     }
 
@@ -168,7 +169,7 @@ impl Form {
     }
 
     /// The form with its sign turned.
-    pub(crate) fn negated(self) -> Form
+    pub fn negated(self) -> Form
         requires small { Numbers (IsSmall form_limit) self }
         ensures { result ≡ scale_form (negsuc 0) self }
     {
@@ -179,6 +180,13 @@ impl Form {
             terms,
             mixed: self.mixed,
         }
+    }
+
+    /// The terms and the mixed deltas of each form are in order.
+    pub(crate) fn in_order(&self)
+        ensures { IsInOrder self.now }
+    {
+        let _ = &self.terms;
     }
 
     /// The form with its numbers multiplied.
@@ -194,7 +202,7 @@ impl Form {
         Ok(Form {
             constant: multiplied(factor, self.constant),
             terms: terms::scaled(alloc, factor, self.terms.as_slice())?,
-            mixed: Vec::from_slice(alloc, self.mixed.as_slice())?,
+            mixed: deltas::copied(alloc, self.mixed.as_slice())?,
         })
     }
 
@@ -235,7 +243,7 @@ impl Form {
     }
 
     /// Whether the form is that of the object with some base.
-    pub(crate) fn is_moved(&self, object: u32) -> bool
+    fn is_moved(&self, object: u32) -> bool
         ensures { IsTrue result → IsMoved object self.now }
     {
         terms::is_delta(self.terms.as_slice(), Delta { object, site: 0 })
@@ -262,9 +270,43 @@ impl Form {
         ensures value { IfOk result (λ v. v.items ≡ support self.now) }
         ensures order { IfOk result (λ v. AreInOrder v.items) }
     {
-        let mut deltas = Vec::from_slice(alloc, self.mixed.as_slice())?;
+        let mut deltas = deltas::copied(alloc, self.mixed.as_slice())?;
         push_deltas_of(&mut deltas, self.terms.as_slice())?;
         deltas::in_order(alloc, deltas)
+    }
+
+    /// Puts each delta of the form, mixed or not, behind others, in no order. Put in order, each once, they are the others with
+    /// those of the form among them.
+    ///
+    /// # Errors
+    ///
+    /// `Memory` when out of memory.
+    pub fn push_deltas(&self, deltas: &mut Vec<Delta>) -> Result<(), Memory>
+        ensures { OnOk result (add_deltas deltas.new.items [] ≡ add_deltas (support self.now) (add_deltas deltas.old.items [])) }
+    {
+        deltas::push_all(deltas, self.mixed.as_slice())?;
+        push_deltas_of(deltas, self.terms.as_slice())
+    }
+
+    /// Puts each delta on which the gain of an object depends, where the form is written to it, behind others, as `push_deltas`
+    /// does. A gain that is a number depends on none.
+    pub(crate) fn push_gain(
+        &self,
+        alloc: Global,
+        object: u32,
+        deltas: &mut Vec<Delta>,
+    ) -> Result<(), Memory>
+        requires { Numbers (IsSmall form_limit) self.now }
+        ensures { OnOk result ((n : ℤ) →
+            add_deltas deltas.new.items [] ≡ add_deltas (support (gain n object self.now)) (add_deltas deltas.old.items [])) }
+    {
+        if self.is_moved(object) {
+            return Ok(());
+        }
+        let delta = Delta { object, site: 0 };
+        let terms = terms::with_one_less(alloc, self.terms.as_slice(), delta)?;
+        deltas::push_all(deltas, self.mixed.as_slice())?;
+        push_deltas_of(deltas, terms.as_slice())
     }
 
     /// The value where all deltas are 0.
@@ -362,7 +404,7 @@ impl Total {
         let mut terms = self.terms;
         let mut mixed = self.mixed;
         terms.extend_from_slice(form.terms.as_slice())?;
-        mixed.extend_from_slice(form.mixed.as_slice())?;
+        deltas::push_all(&mut mixed, form.mixed.as_slice())?;
         Ok(Total {
             constant: added(form.constant, self.constant),
             terms,

@@ -1,17 +1,16 @@
 //! The forms of what stands at each place.
 
-ghost use Rattle.std.specs.Prelude.{◌≡◌, pos, negsuc, IsTrue, IfOk, OnOk};
+ghost use Rattle.std.specs.Prelude.{◌≡◌, ℤ, pos, negsuc, [], IfOk, OnOk};
 ghost use Rattle.std.specs.Option.{option_copied, unwrap_or};
 ghost use Rattle.homeo_meaning.specs.LowMeaning.{BaseAt, put};
 ghost use Rattle.homeo_meaning.specs.Serial.{values_of};
 ghost use Rattle.homeo_meaning.specs.Small.{IsSmall};
 ghost use Rattle.homeo_plan.specs.FormSizes.{Numbers};
 ghost use Rattle.homeo_plan.specs.Limit.{form_limit};
-ghost use Rattle.homeo_plan.specs.Linear.{base_forms, constant_form, add_forms, scale_form};
+ghost use Rattle.homeo_plan.specs.Linear.{base_forms, constant_form, add_forms, scale_form, add_deltas, support};
 ghost use Rattle.homeo_split.specs.Places.{plain_place};
-ghost use Rattle.homeo_follow.specs.Follow.{object_forms};
+ghost use Rattle.homeo_follow.specs.Follow.{object_forms, gain};
 ghost use Rattle.homeo_form.specs.Standing.{first_forms, forms_of};
-ghost use Rattle.homeo_form.specs.Moved.{IsMoved};
 
 use crate::form::{Form, Total};
 use crate::numbers::{added, multiplied};
@@ -126,13 +125,28 @@ impl<'a> Standing<'a> {
         }
     }
 
-    /// Whether the form that was set for an object is that of the object with some base.
-    pub fn is_moved(&self, object: u32) -> bool
-        ensures { IsTrue result → IsMoved object (forms_of self.now (BaseAt object)) }
+    /// Puts each delta on which the gain of an object depends, where the form that stands for it is written to it, behind others, in
+    /// no order. Put in order, each once, they are the others with those of the gain among them.
+    ///
+    /// # Errors
+    ///
+    /// `Memory` when out of memory.
+    pub fn push_gain(
+        &self,
+        alloc: Global,
+        object: u32,
+        deltas: &mut Vec<Delta>,
+    ) -> Result<(), Memory>
+        requires { Numbers (IsSmall form_limit) (forms_of self.now (BaseAt object)) }
+        ensures { OnOk result ((n : ℤ) → add_deltas deltas.new.items [] ≡
+            add_deltas (support (gain n object (forms_of self.now (BaseAt object)))) (add_deltas deltas.old.items [])) }
     {
         match self.get(Place::Base(object)) {
-            Some(form) => form.is_moved(object),
-            None => false,
+            Some(form) => form.push_gain(alloc, object, deltas),
+            None => {
+                let first = self.first_form(alloc, Place::Base(object))?;
+                first.push_gain(alloc, object, deltas)
+            }
         }
     }
 

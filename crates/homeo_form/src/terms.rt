@@ -155,6 +155,21 @@ fn add_term(terms: &mut Vec<Term>, term: &Term) -> Result<(), Memory>
     Ok(())
 }
 
+/// The terms where a delta has a factor that is less by 1.
+pub(crate) fn with_one_less(
+    alloc: Global,
+    terms: &[Term],
+    delta: Delta,
+) -> Result<Vec<Term>, Memory>
+    requires order { AreInOrder (deltas_of terms.now) }
+    requires small { AreSmall terms.now }
+    ensures { IfOk result (λ v. v.items ≡ add_term delta (negsuc 0) terms.now) }
+{
+    let mut less = Vec::from_slice(alloc, terms)?;
+    add_term(&mut less, &Term { delta, factor: -1 })?;
+    Ok(less)
+}
+
 /// Whether the term at a place counts, and stands before the next one.
 fn leads(terms: &[Term], place: usize) -> bool
     requires { place < length terms.now }

@@ -1,12 +1,12 @@
 -- Comparisons that are kept, and the numbers met in differences.
-use Rattle.std.proofs.Common.{◌≡◌, Bool, true, false, cond, List, [], ◌∷◌, ◌++◌, map, ℤ, pos, negsuc, ◌+ℤ◌, ◌*ℤ◌, int_lt, int_le, refl, sym, ap, ◌∙◌, subst, arith}
+use Rattle.std.proofs.Common.{◌≡◌, Bool, true, false, not, cond, List, [], ◌∷◌, ◌++◌, map, ℤ, pos, negsuc, ◌+ℤ◌, ◌*ℤ◌, int_lt, int_le, refl, sym, ap, ◌∙◌, subst, arith}
 use Rattle.std.proofs.Math.IntN.{+ℤ_idl}
 use Rattle.std.specs.Ordering.{int_eq}
 use Rattle.std.proofs.lemmas.Bool.Decides.{same_from_decides, Decides-like, Decides-int_eq}
 use Rattle.std.proofs.lemmas.Int.{ints}
 use Rattle.std.proofs.lemmas.List.{append_assoc, map_push}
 use Rattle.homeo_syntax.specs.declared.phrase.Compare.{Compare}
-use Rattle.homeo_syntax.specs.declared.phrase.Compare.TheVariants.{Equal}
+use Rattle.homeo_syntax.specs.declared.phrase.Compare.TheVariants.{Less, LessEqual, Equal}
 use Rattle.homeo_meaning.specs.Key.{definitions as meaning_definitions}
 use Rattle.homeo_meaning.specs.Meaning.{compared}
 use Rattle.homeo_meaning.specs.Small.{IsSmall}
@@ -50,13 +50,6 @@ apart_lt m n = at (int_lt m n) refl
     at true e = let k : true ≡ int_lt (m +ℤ (negsuc 0 *ℤ n)) (pos 0) = omega (arith, ints, e) in sym k
     at false e = let k : false ≡ int_lt (m +ℤ (negsuc 0 *ℤ n)) (pos 0) = omega (arith, ints, e) in sym k
 
-apart_le : (m n : ℤ) → int_le (m +ℤ (negsuc 0 *ℤ n)) (pos 0) ≡ int_le m n
-apart_le m n = at (int_le m n) refl
-  where
-    at : (b : Bool) → int_le m n ≡ b → int_le (m +ℤ (negsuc 0 *ℤ n)) (pos 0) ≡ b
-    at true e = let k : true ≡ int_le (m +ℤ (negsuc 0 *ℤ n)) (pos 0) = omega (arith, ints, e) in sym k
-    at false e = let k : false ≡ int_le (m +ℤ (negsuc 0 *ℤ n)) (pos 0) = omega (arith, ints, e) in sym k
-
 apart_eq : (m n : ℤ) → int_eq (m +ℤ (negsuc 0 *ℤ n)) (pos 0) ≡ int_eq m n
 apart_eq m n =
     same_from_decides (int_eq (m +ℤ (negsuc 0 *ℤ n)) (pos 0)) (int_eq m n)
@@ -68,10 +61,6 @@ module _ (x y a : Linear) (p : a ≡ add_forms x (scale_form (negsuc 0) y)) wher
   unfolding plan_definitions
   less_apart = ap (λ (b : Linear). int_lt b.constant (pos 0)) p ∙ apart_lt x.constant y.constant
 
-  pub at_most_apart : int_le a.constant (pos 0) ≡ int_le x.constant y.constant
-  unfolding plan_definitions
-  at_most_apart = ap (λ (b : Linear). int_le b.constant (pos 0)) p ∙ apart_le x.constant y.constant
-
   pub equal_apart : int_eq a.constant (pos 0) ≡ int_eq x.constant y.constant
   unfolding plan_definitions
   equal_apart = ap (λ (b : Linear). int_eq b.constant (pos 0)) p ∙ apart_eq x.constant y.constant
@@ -82,6 +71,28 @@ less_unequal m n h = at (int_eq m n) refl
     at : (b : Bool) → int_eq m n ≡ b → false ≡ b
     at true e = let k : m ≡ n = (Decides-int_eq m n).0 e in absurd (omega (arith, ints, h, k))
     at false e = refl
+
+-- ---- sides that are turned
+at_most_turned : (m n : ℤ) → int_le m n ≡ not (int_lt n m)
+at_most_turned m n = at (int_lt n m) refl
+  where
+    at : (b : Bool) → int_lt n m ≡ b → int_le m n ≡ not b
+    at true e = let k : false ≡ int_le m n = omega (arith, ints, e) in sym k
+    at false e = let k : true ≡ int_le m n = omega (arith, ints, e) in sym k
+
+pub turned_holds : (l r : Linear) (b : Bool) → b ≡ compared Less r.constant l.constant → not b ≡ compared LessEqual l.constant r.constant
+unfolding meaning_definitions
+turned_holds l r b p = ap not p ∙ sym (at_most_turned l.constant r.constant)
+
+pub turned_kept : (l r : Linear) → kept_comparison Less r l ≡ kept_comparison LessEqual l r
+unfolding meaning_definitions plan_definitions
+turned_kept l r =
+    turned (int_lt r.constant l.constant) (difference r l (pos 1) ∷ []) (difference l r (pos 0) ∷ [])
+    ∙ ap (λ v. cond v (difference l r (pos 0) ∷ []) (difference r l (pos 1) ∷ [])) (sym (at_most_turned l.constant r.constant))
+  where
+    turned : (v : Bool) (xs ys : List Linear) → cond v xs ys ≡ cond (not v) ys xs
+    turned true xs ys = refl
+    turned false xs ys = refl
 
 -- ---- the atoms of a comparison that holds, and of one that doesn't
 pub kept_true : (op : Compare) (l r : Linear) → true ≡ compared op l.constant r.constant → true_comparison op l r ≡ kept_comparison op l r

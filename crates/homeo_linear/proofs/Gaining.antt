@@ -1,24 +1,15 @@
 -- What a command depends on that was followed: its prints, and the gains of the objects that it writes.
-use Rattle.homeo_meaning.specs.Key.{definitions as meaning_definitions}
 use Rattle.homeo_plan.specs.Key.{definitions as plan_definitions}
 use Rattle.homeo_follow.specs.Key.{definitions as follow_definitions}
-use Rattle.std.proofs.Common.{◌≡◌, ℕ, ◌+◌, ◌*◌, ◌-◌, ◌<◌, ◌≤◌, Bool, cond, ◌||◌, List, [], ◌∷◌, ◌++◌, map, drop, get_or, length, ℤ, pos, negsuc, ◌+ℤ◌, ◌*ℤ◌, refl, sym, ap, ◌∙◌, append-nil, add-one, arith}
+use Rattle.std.proofs.Common.{◌≡◌, ℕ, ◌+◌, ◌-◌, ◌<◌, ◌≤◌, Bool, ◌||◌, List, [], ◌∷◌, ◌++◌, map, drop, get_or, length, ℤ, refl, sym, ap, ◌∙◌, add-one, arith}
 use Rattle.std.specs.List.{list_any}
 use Rattle.std.proofs.Math.Seq.{drop-cons}
-use Rattle.std.specs.Int.RustNames.{unsigned_abs}
-use Rattle.std.proofs.lemmas.Int.{unsigned_abs-mul}
 use Rattle.homeo_meaning.specs.LowMeaning.{BaseAt}
-use Rattle.homeo_meaning.specs.Small.{IsSmall}
-use Rattle.homeo_plan.specs.FormSizes.{Numbers}
-use Rattle.homeo_plan.specs.Limit.{form_limit}
 use Rattle.homeo_plan.specs.declared.forms.Delta.{Delta}
-use Rattle.homeo_plan.specs.declared.forms.Term.{Term}
-use Rattle.homeo_plan.specs.Linear.{AreInOrder, Linear, Forms, delta_before, deltas_of, with_term, add_term, add_deltas, scale_form, support}
-use Rattle.homeo_follow.specs.Follow.{object_delta, object_form, gain, print_needs, write_needs}
+use Rattle.homeo_plan.specs.Linear.{AreInOrder, Linear, Forms, add_deltas, support}
+use Rattle.homeo_follow.specs.Follow.{gain, print_needs, write_needs}
 use Rattle.homeo_plan.proofs.DeltaLists.{has, any_adds, has_adds, in_order_adds, same_deltas}
-use Rattle.homeo_plan.proofs.Factors.{same_delta_refl}
-use Rattle.homeo_form.proofs.DeltasInOrder.{or_none, adds_append}
-use Rattle.homeo_form.specs.Moved.{IsMoved}
+use Rattle.homeo_form.proofs.DeltasInOrder.{or_none}
 
 -- the objects that deltas stand for
 abbrev objects : List Delta → List ℕ
@@ -65,35 +56,22 @@ module _ (b : ℕ → ℤ) (f : Forms) where
       none (x ∷ xs) = none xs
 
   gains_more :
-      (ds es fs : List Delta) (n : ℕ) (x : Delta) → n < length ds → fs ≡ es ++ gained (get_or ds n x).object →
+      (ds es fs : List Delta) (n : ℕ) (x : Delta) → n < length ds → add_deltas fs [] ≡ add_deltas (gained (get_or ds n x).object) (add_deltas es []) →
       add_deltas es [] ≡ write_needs b f (objects (drop (n + 1) ds)) → add_deltas fs [] ≡ write_needs b f (objects (drop n ds))
   unfolding plan_definitions follow_definitions
   gains_more ds es fs n x h pf pe =
       let d : Delta = get_or ds n x in
       let next : drop n ds ≡ d ∷ drop (n + 1) ds = rw add-one (drop-cons ds n x h) in
-      ap (λ l. add_deltas l []) pf ∙ adds_append es (gained d.object) [] ∙ ap (add_deltas (gained d.object)) pe
+      pf ∙ ap (add_deltas (gained d.object)) pe
       ∙ sym (ap (λ l. write_needs b f (objects l)) next)
 
   -- the last object that is left
   pub gains_place :
-      (ds es fs : List Delta) (p : ℕ) (x : Delta) → 0 < p → p ≤ length ds → fs ≡ es ++ gained (get_or ds (p - 1) x).object →
-      add_deltas es [] ≡ write_needs b f (objects (drop p ds)) → add_deltas fs [] ≡ write_needs b f (objects (drop (p - 1) ds))
+      (ds es fs : List Delta) (p : ℕ) (x : Delta) → 0 < p → p ≤ length ds →
+      add_deltas fs [] ≡ add_deltas (gained (get_or ds (p - 1) x).object) (add_deltas es []) → add_deltas es [] ≡ write_needs b f (objects (drop p ds)) → add_deltas fs [] ≡ write_needs b f (objects (drop (p - 1) ds))
   gains_place ds es fs p x m h pf pe =
       let same : p - 1 + 1 ≡ p = omega (arith, m) in
       gains_more ds es fs (p - 1) x (omega (arith, m, h)) pf (pe ∙ ap (λ n. write_needs b f (objects (drop n ds))) (sym same))
-
--- ---- gains that are numbers
-moved_gain : (n : ℤ) (x : ℕ) (a : Linear) → IsMoved x a → support (gain n x a) ≡ []
-unfolding plan_definitions follow_definitions
-moved_gain n x a h =
-    let d : Delta = object_delta x in
-    let t : Term = record { delta = d; factor = pos 1 } in
-    ap (λ b. support (gain n x b)) h
-    ∙ ap (λ v. add_deltas (deltas_of (cond v (with_term d (negsuc 0 +ℤ pos 1) []) (cond (delta_before d d) (with_term d (negsuc 0) (t ∷ [])) (t ∷ add_term d (negsuc 0) [])))) [])
-    (same_delta_refl d)
-
-pub moved_pushed : (n : ℤ) (x : ℕ) (a : Linear) (ds : List Delta) → IsMoved x a → ds ≡ ds ++ support (gain n x a)
-moved_pushed n x a ds h = sym (ap (λ l. ds ++ l) (moved_gain n x a h) ∙ append-nil ds)
 
 -- ---- prints
 prints_push : (ps : List Linear) (p : Linear) (es : List Delta) → print_needs (ps ++ p ∷ []) es ≡ print_needs ps (add_deltas (support p) es)
@@ -103,23 +81,12 @@ prints_push (q ∷ ps) p es = ap (add_deltas (support q)) (prints_push ps p es)
 
 -- the last print that is left
 pub prints_popped :
-    (ps qs : List Linear) (a : Linear) (es fs : List Delta) → ps ≡ qs ++ a ∷ [] → fs ≡ es ++ support a →
+    (ps qs : List Linear) (a : Linear) (es fs : List Delta) → ps ≡ qs ++ a ∷ [] → add_deltas fs [] ≡ add_deltas (support a) (add_deltas es []) →
     print_needs qs (add_deltas fs []) ≡ print_needs ps (add_deltas es [])
 prints_popped ps qs a es fs p q =
-    ap (print_needs qs) (ap (λ l. add_deltas l []) q ∙ adds_append es (support a) []) ∙ sym (prints_push qs a (add_deltas es []))
+    ap (print_needs qs) q ∙ sym (prints_push qs a (add_deltas es []))
     ∙ sym (ap (λ l. print_needs l (add_deltas es [])) p)
 
 pub prints_end : (ps : List Linear) (es ws : List Delta) → ps ≡ [] → print_needs ps es ≡ ws → es ≡ ws
 unfolding follow_definitions
 prints_end ps es ws p h = sym (ap (λ l. print_needs l es) p) ∙ h
-
--- ---- an object as it was
-pub object_small : (n : ℤ) (x : ℕ) → IsSmall form_limit n → Numbers (IsSmall form_limit) (object_form n x)
-unfolding plan_definitions follow_definitions meaning_definitions
-object_small n x h = record { constant = h; factors = (omega arith, tt) }
-
-pub lost_small : (n : ℤ) (x : ℕ) → IsSmall form_limit n → Numbers (IsSmall form_limit) (scale_form (negsuc 0) (object_form n x))
-unfolding plan_definitions follow_definitions meaning_definitions
-lost_small n x h =
-    let size : unsigned_abs (negsuc 0 *ℤ n) ≡ unsigned_abs (negsuc 0) * unsigned_abs n = unsigned_abs-mul (negsuc 0) n in
-    record { constant = omega (arith, size, h); factors = (omega arith, tt) }

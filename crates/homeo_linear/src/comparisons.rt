@@ -1,9 +1,9 @@
 //! Comparisons of expressions, and the atoms that keep them as they are at a base.
 
-ghost use Rattle.std.specs.Prelude.{◌≡◌, ◌++◌, pos, map, int_lt, int_le, IfOk, OnOk};
+ghost use Rattle.std.specs.Prelude.{◌≡◌, ◌++◌, pos, map, int_lt, IfOk, OnOk};
 ghost use Rattle.std.specs.Ordering.{int_eq};
 ghost use Rattle.homeo_syntax.specs.LowView.{plain_lexpr};
-ghost use Rattle.homeo_syntax.specs.declared.phrase.Compare.TheVariants.{Less, LessEqual, Equal};
+ghost use Rattle.homeo_syntax.specs.declared.phrase.Compare.TheVariants.{Less, Equal};
 ghost use Rattle.homeo_meaning.specs.Meaning.{compared};
 ghost use Rattle.homeo_meaning.specs.Small.{IsSmall};
 ghost use Rattle.homeo_plan.specs.Limit.{form_limit};
@@ -21,12 +21,6 @@ fn is_less(apart: &Form) -> bool
     ensures { result ≡ int_lt apart.now.constant (pos 0) }
 {
     apart.constant() < 0
-}
-
-fn is_at_most(apart: &Form) -> bool
-    ensures { result ≡ int_le apart.now.constant (pos 0) }
-{
-    apart.constant() <= 0
 }
 
 fn is_equal(apart: &Form) -> bool
@@ -56,7 +50,7 @@ fn less(apart: Form) -> Atom
 }
 
 /// Whether a comparison holds at a base, by the form of the difference of its sides there. The atoms that keep it so are put behind
-/// the others.
+/// the others. A side is at most the other where the other isn't less.
 pub(crate) fn comparison(
     alloc: Global,
     standing: &Standing,
@@ -73,7 +67,10 @@ pub(crate) fn comparison(
 {
     match op {
         Compare::Less => by_less(alloc, standing, left, right, atoms),
-        Compare::LessEqual => by_at_most(alloc, standing, left, right, atoms),
+        Compare::LessEqual => {
+            let is_more = by_less(alloc, standing, right, left, atoms)?;
+            Ok(!is_more)
+        }
         Compare::Equal => by_equal(alloc, standing, left, right, atoms),
     }
 }
@@ -96,32 +93,7 @@ fn by_less(
         atoms.push(less(apart))?;
         Ok(true)
     } else {
-        let back = expression_difference(alloc, standing, right, left)?;
-        atoms.push(at_most(back))?;
-        Ok(false)
-    }
-}
-
-fn by_at_most(
-    alloc: Global,
-    standing: &Standing,
-    left: &LExpr,
-    right: &LExpr,
-    atoms: &mut Vec<Atom>,
-) -> Result<bool, Memory>
-    requires { AreSides (forms_of standing.now) (plain_lexpr left.now) (plain_lexpr right.now) }
-    ensures holds { IfOk result (λ b. b ≡ compared LessEqual (form (forms_of standing.now) (plain_lexpr left.now)).constant
-        (form (forms_of standing.now) (plain_lexpr right.now)).constant) }
-    ensures atoms { OnOk result (map plain_atom atoms.new.items ≡ map plain_atom atoms.old.items ++
-        kept_comparison LessEqual (form (forms_of standing.now) (plain_lexpr left.now)) (form (forms_of standing.now) (plain_lexpr right.now))) }
-{
-    let apart = expression_difference(alloc, standing, left, right)?;
-    if is_at_most(&apart) {
-        atoms.push(at_most(apart))?;
-        Ok(true)
-    } else {
-        let back = expression_difference(alloc, standing, right, left)?;
-        atoms.push(less(back))?;
+        atoms.push(at_most(apart.negated()))?;
         Ok(false)
     }
 }
@@ -144,13 +116,12 @@ fn by_equal(
         atoms.push(less(apart))?;
         return Ok(false);
     }
-    let back = expression_difference(alloc, standing, right, left)?;
     if is_equal(&apart) {
-        atoms.push(at_most(apart))?;
-        atoms.push(at_most(back))?;
+        atoms.push(at_most(apart.copy(alloc)?))?;
+        atoms.push(at_most(apart.negated()))?;
         Ok(true)
     } else {
-        atoms.push(less(back))?;
+        atoms.push(less(apart.negated()))?;
         Ok(false)
     }
 }

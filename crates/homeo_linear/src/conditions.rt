@@ -82,11 +82,14 @@ fn tests(
     Ok(true)
 }
 
-/// Takes out the atoms from one place to another.
+/// Takes out the atoms from one place to another. Most often there are none.
 fn take_out(atoms: &mut Vec<Atom>, from: usize, to: usize)
     requires order { from ≤ to }
     requires within { to ≤ length atoms.old.items }
     ensures { atoms.new.items ≡ take from atoms.old.items ++ drop to atoms.old.items }
 {
+    if from == to {
+        return;
+    }
     atoms.drain(from..to);
 }

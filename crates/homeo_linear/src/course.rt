@@ -1,16 +1,15 @@
 //! Commands over whole objects, followed along the branch that they take at a base.
 
-ghost use Rattle.std.specs.Prelude.{◌≡◌, ℕ, [], ◌++◌, map, IfOk, OnOk};
+ghost use Rattle.std.specs.Prelude.{◌≡◌, ℕ, ℤ, [], map, IfOk, OnOk};
 ghost use Rattle.homeo_syntax.specs.Low.{Assign, Write, Print};
 ghost use Rattle.homeo_syntax.specs.LowView.{low_commands, plain_lexpr, plain_lcond, plain_lcommand};
-ghost use Rattle.homeo_meaning.specs.LowMeaning.{BaseAt};
 ghost use Rattle.homeo_meaning.specs.Serial.{values_of};
 ghost use Rattle.homeo_meaning.specs.Small.{IsSmall};
-ghost use Rattle.homeo_plan.specs.FormSizes.{Numbers, CanForm, CanCond};
+ghost use Rattle.homeo_plan.specs.FormSizes.{CanForm, CanCond};
 ghost use Rattle.homeo_plan.specs.Limit.{form_limit};
-ghost use Rattle.homeo_plan.specs.Linear.{add_deltas, support};
+ghost use Rattle.homeo_plan.specs.Linear.{add_deltas};
 ghost use Rattle.homeo_follow.specs.Brought.{brought, plain_part};
-ghost use Rattle.homeo_follow.specs.Follow.{nothing, and_then, asked, holds_by, follow, follow_all, object_delta, object_forms, object_of, followed, gain, print_needs, write_needs, needed};
+ghost use Rattle.homeo_follow.specs.Follow.{nothing, and_then, asked, holds_by, follow, follow_all, object_delta, object_forms, object_of, followed, print_needs, write_needs, needed};
 ghost use Rattle.homeo_follow.specs.FollowSizes.{AreNumbers, CanBeFollowed, CanAllBeFollowed};
 ghost use Rattle.homeo_form.specs.Standing.{forms_of};
 ghost use Rattle.homeo_linear.specs.inner.Course.{brought_by, followed_so};
@@ -20,11 +19,11 @@ use crate::conditions::condition;
 use homeo_follow::PlanPart;
 use homeo_form::{Form, Standing, deltas_in_order, expression_form};
 use homeo_meaning::Database;
-use homeo_meaning::padded::item_or;
 use homeo_plan::{Atom, AtomSet, Delta, FreezeSet};
-use homeo_split::{Place, place_of, place_of_temp};
+use homeo_split::{place_of, place_of_temp};
 use homeo_syntax::{LCommand, LCond, LExpr, List, Memory, SplitName, Temp};
 use std::alloc::Global;
+use std::mem;
 
 /// A command, as far as it was followed.
 #[derive(Drop)]
@@ -60,15 +59,11 @@ impl<'a> Course<'a> {
     }
 
     /// What it brings, where it ends here: its atoms and its prints are taken.
-    fn part(&mut self, alloc: Global, base: &[i64]) -> Result<PlanPart, Memory>
-        requires left { AreNumbers (IsSmall form_limit) (forms_of self.old.standing) }
-        requires base { (x : ℕ) → IsSmall form_limit (values_of base.now x) }
-        ensures { IfOk result (λ p. plain_part p ≡ brought_by (values_of base.now) (followed_so self.old)) }
+    fn part(&mut self, alloc: Global) -> Result<PlanPart, Memory>
+        requires { AreNumbers (IsSmall form_limit) (forms_of self.old.standing) }
+        ensures { IfOk result (λ p. (b : ℕ → ℤ) → plain_part p ≡ brought_by b (followed_so self.old)) }
     {
-        let written = Vec::from_slice(alloc, self.written.as_slice())?;
-        let mut prints = Vec::new(alloc);
-        prints.append(&mut self.prints)?;
-        let needed = needed(alloc, base, &self.standing, written, prints)?;
+        let needed = needed(alloc, &self.standing, &mut self.written, &mut self.prints)?;
         let mut atoms = Vec::with_capacity(alloc, self.atoms.len())?;
         atoms.append(&mut self.atoms)?;
         Ok(PlanPart {
@@ -173,27 +168,6 @@ fn follow_all(alloc: Global, commands: &[LCommand], course: &mut Course<'_>) -> 
     Ok(())
 }
 
-/// Follows a command over whole objects along the branch that it takes at a base (this project's rule): an object is its base
-/// with its delta, which stands for its deltas at all sites. The command is followed by forms alone, and none is made of its
-/// transform.
-///
-/// No constant and no factor that is met in the forms of its tests, in their differences, in what it assigns, writes and
-/// prints and in what it leaves may be above 4 * 10^18 in size, with partial sums and products from left to right, and no number
-/// of the base.
-///
-/// # Errors
-///
-/// `Memory` when out of memory.
-pub fn follow_at(alloc: Global, command: &LCommand, base: &Database) -> Result<PlanPart, Memory>
-    requires can { CanBeFollowed (IsSmall form_limit) (object_forms (values_of base.now.items)) (plain_lcommand command.now) }
-    requires left { AreNumbers (IsSmall form_limit) (followed (values_of base.now.items) (plain_lcommand command.now)).forms }
-    requires base { (x : ℕ) → IsSmall form_limit (values_of base.now.items x) }
-    ensures { IfOk result (λ p. plain_part p ≡ brought (values_of base.now.items) (plain_lcommand command.now)) }
-{
-    let mut follower = Follower::new(alloc, base);
-    follower.part(alloc, command)
-}
-
 /// Follows commands at a base, one after another.
 #[derive(Drop)]
 pub struct Follower<'a> {
@@ -213,7 +187,13 @@ impl<'a> Follower<'a> {
         }
     }
 
-    /// What a command brings, as `follow_at` says.
+    /// What a command over whole objects brings, followed along the branch that it takes at the base (this project's rule): an
+    /// object is its base with its delta, which stands for its deltas at all sites. The command is followed by forms alone, and none
+    /// is made of its transform.
+    ///
+    /// No constant and no factor that is met in the forms of its tests, in their differences, in what it assigns, writes and
+    /// prints and in what it leaves may be above 4 * 10^18 in size, with partial sums and products from left to right, and no
+    /// number of the base.
     ///
     /// # Errors
     ///
@@ -228,90 +208,41 @@ impl<'a> Follower<'a> {
         let base = self.base;
         self.course.begin(base);
         follow(alloc, command, &mut self.course)?;
-        self.course.part(alloc, base)
+        self.course.part(alloc)
     }
 }
 
-/// What the forms of prints, and the gains of the objects written, depend on.
+/// What the forms of prints, and the gains of the objects written, depend on, at any base. The lists keep their room.
 fn needed(
     alloc: Global,
-    base: &[i64],
     standing: &Standing,
-    written: Vec<Delta>,
-    prints: Vec<Form>,
+    written: &mut Vec<Delta>,
+    prints: &mut Vec<Form>,
 ) -> Result<Vec<Delta>, Memory>
-    requires left { AreNumbers (IsSmall form_limit) (forms_of standing.now) }
-    requires base { (x : ℕ) → IsSmall form_limit (values_of base.now x) }
-    ensures { IfOk result (λ v. v.items ≡
-        print_needs prints.items (write_needs (values_of base.now) (forms_of standing.now) (map (λ d. d.object) written.items))) }
+    requires { AreNumbers (IsSmall form_limit) (forms_of standing.now) }
+    ensures { IfOk result (λ v. (b : ℕ → ℤ) →
+        v.items ≡ print_needs prints.old.items (write_needs b (forms_of standing.now) (map (λ d. d.object) written.old.items))) }
 {
-    let mut prints = prints;
-    let written = deltas_in_order(alloc, written)?;
-    let mut needed = gained(alloc, base, standing, written.as_slice())?;
+    let once = deltas_in_order(alloc, mem::replace(written, Vec::new(alloc)))?;
+    let mut needed = gained(alloc, standing, once.as_slice())?;
+    *written = once;
     while let Some(form) = prints.pop() {
-        push_support(alloc, &mut needed, &form)?;
+        form.push_deltas(&mut needed)?;
     }
     deltas_in_order(alloc, needed)
 }
 
 /// What the gains of these objects depend on, in no order, and each delta as often as it is needed.
-fn gained(
-    alloc: Global,
-    base: &[i64],
-    standing: &Standing,
-    written: &[Delta],
-) -> Result<Vec<Delta>, Memory>
-    requires left { AreNumbers (IsSmall form_limit) (forms_of standing.now) }
-    requires base { (x : ℕ) → IsSmall form_limit (values_of base.now x) }
-    ensures { IfOk result (λ v. add_deltas v.items [] ≡
-        write_needs (values_of base.now) (forms_of standing.now) (map (λ d. d.object) written.now)) }
+fn gained(alloc: Global, standing: &Standing, written: &[Delta]) -> Result<Vec<Delta>, Memory>
+    requires { AreNumbers (IsSmall form_limit) (forms_of standing.now) }
+    ensures { IfOk result (λ v. (b : ℕ → ℤ) →
+        add_deltas v.items [] ≡ write_needs b (forms_of standing.now) (map (λ d. d.object) written.now)) }
 {
     let mut needed = Vec::new(alloc);
     let mut place = written.len();
     while place > 0 {
         place -= 1;
-        push_gain(alloc, base, standing, written[place].object, &mut needed)?;
+        standing.push_gain(alloc, written[place].object, &mut needed)?;
     }
     Ok(needed)
-}
-
-/// Puts what the gain of an object depends on behind the others: nothing, where it is a number.
-fn push_gain(
-    alloc: Global,
-    base: &[i64],
-    standing: &Standing,
-    object: u32,
-    deltas: &mut Vec<Delta>,
-) -> Result<(), Memory>
-    requires left { Numbers (IsSmall form_limit) (forms_of standing.now (BaseAt object)) }
-    requires base { IsSmall form_limit (values_of base.now object) }
-    ensures { OnOk result (deltas.new.items ≡
-        deltas.old.items ++ support (gain (values_of base.now object) object (forms_of standing.now (BaseAt object)))) }
-{
-    if standing.is_moved(object) {
-        return Ok(());
-    }
-    let gain = gain(alloc, base, standing, object)?;
-    push_support(alloc, deltas, &gain)
-}
-
-/// What an object gains where the form that stands for it is written to it.
-fn gain(alloc: Global, base: &[i64], standing: &Standing, object: u32) -> Result<Form, Memory>
-    requires left { Numbers (IsSmall form_limit) (forms_of standing.now (BaseAt object)) }
-    requires base { IsSmall form_limit (values_of base.now object) }
-    ensures { IfOk result (λ f. f ≡ gain (values_of base.now object) object (forms_of standing.now (BaseAt object))) }
-{
-    let written = standing.form_at(alloc, Place::Base(object))?;
-    let before = Form::object(alloc, item_or(base, object as usize, 0), object)?;
-    let lost = before.times(alloc, -1)?;
-    written.plus(alloc, &lost)
-}
-
-/// Puts each delta of a form behind the others.
-fn push_support(alloc: Global, deltas: &mut Vec<Delta>, form: &Form) -> Result<(), Memory>
-    ensures { OnOk result (deltas.new.items ≡ deltas.old.items ++ support form.now) }
-{
-    let more = form.support(alloc)?;
-    deltas.extend_from_slice(more.as_slice())?;
-    Ok(())
 }

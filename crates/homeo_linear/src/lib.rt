@@ -8,7 +8,7 @@ mod following;
 mod formulas;
 mod residuals;
 
-pub use course::{Follower, follow_at};
+pub use course::Follower;
 pub use following::{push_written, remote_of};
 pub use formulas::atoms;
 pub use residuals::needs;

@@ -7,7 +7,7 @@ use Rattle.homeo_plan.specs.Linear.{AreInOrder, Linear, same_delta, deltas_of, w
 use Rattle.homeo_plan.specs.declared.forms.Delta.{Delta}
 use Rattle.homeo_plan.specs.declared.forms.Term.{Term}
 use Rattle.homeo_plan.specs.Limit.{form_limit}
-use Rattle.homeo_form.specs.inner.Key.{definitions}
+use Rattle.homeo_form.specs.Key.{definitions}
 
 -- the factors are at most n in size
 abbrev pub AreWithin : ℕ → List Term → Type 0

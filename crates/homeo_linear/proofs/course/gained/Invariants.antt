@@ -1,6 +1,5 @@
 -- What the gains of the objects from the place on depend on.
-use Rattle.std.proofs.Common.{◌≡◌, ◌≤◌, [], map, drop, length}
-use Rattle.homeo_meaning.specs.Serial.{values_of}
+use Rattle.std.proofs.Common.{◌≡◌, ◌≤◌, ℕ, ℤ, [], map, drop, length}
 use Rattle.homeo_plan.specs.Linear.{add_deltas}
 use Rattle.homeo_follow.specs.Follow.{write_needs}
 use Rattle.homeo_form.specs.Standing.{forms_of}
@@ -9,7 +8,7 @@ use Rattle.homeo_linear.proofs.course.gained.Given as goal
 abbrev pub invariant-loop-place : goal.invariant-loop-place
 invariant-loop-place l = record {
   within : l.place ≤ length l.written;
-  needed : add_deltas l.needed.items [] ≡ write_needs (values_of l.base) (forms_of l.standing) (map (λ d. d.object) (drop l.place l.written));
+  needed : (b : ℕ → ℤ) → add_deltas l.needed.items [] ≡ write_needs b (forms_of l.standing) (map (λ d. d.object) (drop l.place l.written));
 }
 
 abbrev pub decreases-loop-place : goal.decreases-loop-place

@@ -1,6 +1,6 @@
 -- One term.
 use Rattle.std.proofs.Common.{◌∷◌, [], pos, refl}
-use Rattle.homeo_form.specs.inner.Key.{definitions}
+use Rattle.homeo_form.specs.Key.{definitions}
 use Rattle.homeo_form.proofs.FormParts.{one_in_order, same_form}
 use Rattle.homeo_form.proofs.Widths.{kept_is}
 use Rattle.homeo_form.proofs.form.Form.delta_beside.Goals as goal

@@ -5,7 +5,7 @@ use Rattle.std.proofs.lemmas.Int.{to_z-of_z}
 use Rattle.std.proofs.lemmas.Result.{IfOk-weaker}
 use Rattle.homeo_plan.specs.Key.{definitions as plan_definitions}
 use Rattle.homeo_follow.specs.Key.{definitions as follow_definitions}
-use Rattle.homeo_form.specs.inner.Key.{definitions}
+use Rattle.homeo_form.specs.Key.{definitions}
 use Rattle.homeo_form.specs.inner.Terms.{beside}
 use Rattle.homeo_form.proofs.Widths.{kept_is}
 use Rattle.homeo_form.proofs.form.Form.object.Goals as goal

@@ -11,10 +11,10 @@ scaled-requires-clause-small c =
 pub invariant_of-result : goal.invariant_of-result
 invariant_of-result c =
     multiple_in_order _ c.self.inside.terms.items _ _ c.self.inside.mixed.items _ _ c.in_ok-scaled.ensures c.as_slice.ensures.value
-    c.in_ok-from_slice.ensures.items c.as_slice-2.ensures.value c.self.invariant
+    c.in_ok-copied.ensures c.as_slice-2.ensures.value c.self.invariant
 
 pub returns : goal.returns
 returns c =
     multiple_is c.args.self.now c.args.factor _ c.self.inside.constant _ c.self.inside.terms.items _ _ c.self.inside.mixed.items _ _
     c.self.view_is (product_kept c.multiplied.result c.args.factor c.self.inside.constant (search rules) c.ranges.factor (search rules) c.multiplied.ensures) (kept_is c.args.factor c.args.factor c.ranges.factor refl)
-    c.in_ok-scaled.ensures c.as_slice.ensures.value c.in_ok-from_slice.ensures.items c.as_slice-2.ensures.value
+    c.in_ok-scaled.ensures c.as_slice.ensures.value c.in_ok-copied.ensures c.as_slice-2.ensures.value

@@ -23,4 +23,4 @@ returns c =
     sum_is c.args.self c.args.form.now c.self.inside.constant c.form.inside.constant _ c.self.inside.terms.items c.form.inside.terms.items _ _
     c.self.inside.mixed.items c.form.inside.mixed.items _ _ c.self.view_is c.form.view_is
     (sum_kept c.added.result c.form.inside.constant c.self.inside.constant (search rules) (search rules) (search rules) c.added.ensures)
-    c.in_ok-extend_from_slice.ensures.items c.as_slice.ensures.value c.in_ok-extend_from_slice-2.ensures.items c.as_slice-2.ensures.value
+    c.in_ok-extend_from_slice.ensures.items c.as_slice.ensures.value c.in_ok-push_all.ensures c.as_slice-2.ensures.value

@@ -1,6 +1,6 @@
 -- No object has a form.
 use Rattle.std.proofs.Common.{ap}
-use Rattle.homeo_form.specs.inner.Key.{definitions}
+use Rattle.homeo_form.specs.Key.{definitions}
 use Rattle.homeo_form.specs.Objects.{form_there, place_in}
 use Rattle.homeo_form.proofs.objects.ObjectForms.clear.Goals as goal
 

@@ -1,6 +1,6 @@
 -- No object has a form.
 use Rattle.std.proofs.Common.{get_or, ap}
-use Rattle.homeo_form.specs.inner.Key.{definitions}
+use Rattle.homeo_form.specs.Key.{definitions}
 use Rattle.homeo_form.specs.Objects.{form_there}
 use Rattle.homeo_form.proofs.objects.ObjectForms.new.Goals as goal
 

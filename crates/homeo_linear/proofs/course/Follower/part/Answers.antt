@@ -14,8 +14,8 @@ follow-requires c =
     let q = followed_so c.begin.new.self in
     begins_at q q b b (plain_lcommand c.args.command.now) c.begin.ensures refl c.requires.can
 
-pub part-requires-clause-left : goal.part-requires-clause-left
-part-requires-clause-left c =
+pub part-requires : goal.part-requires
+part-requires c =
     let b = c.args.self.now.base.now in
     left_forms (followed_so c.begin.new.self) (followed_so c.follow.new.course) b b (plain_lcommand c.args.command.now) c.begin.ensures refl
     c.in_ok-follow.ensures c.requires.left
@@ -25,5 +25,5 @@ unfolding definitions
 returns-clause-part c =
     let b = c.args.self.now.base.now in
     IfOk-weaker c.part.result _ _
-    (λ p h. h ∙ ap (brought_by (values_of b)) (followed_whole (followed_so c.begin.new.self) (followed_so c.follow.new.course) b b
+    (λ p h. h (values_of b) ∙ ap (brought_by (values_of b)) (followed_whole (followed_so c.begin.new.self) (followed_so c.follow.new.course) b b
     (plain_lcommand c.args.command.now) c.begin.ensures refl c.in_ok-follow.ensures)) c.part.ensures
