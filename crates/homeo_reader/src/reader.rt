@@ -100,6 +100,7 @@ fn read_exactly(alloc: Global, bytes: &[u8]) -> Result<Workload, ReadRefusal>
     match number_names(alloc, scanned.as_slice()) {
         Ok(numbered) => {
             let Numbered { tokens, names } = numbered;
+            drop(scanned);
             parse(alloc, version, tokens.as_slice(), names, bytes.len() as u64)
         }
         Err(_) => Err(ReadRefusal::Memory),
