@@ -216,20 +216,7 @@ fn number(digits: &[u8]) -> i64
     value as i64
 }
 
-/// Whether a text that begins with these two tokens is in version 2.
-pub fn begins_second(first: Lexeme<'_>, second: Lexeme<'_>) -> bool
-    ensures { result ≡ tokens.begins_second (plain_lexeme first.entry) (plain_lexeme second.entry) }
-{
-    match first {
-        Lexeme::Fixed(mark) => match second {
-            Lexeme::Number(n) => is_workload(mark) && n == 2,
-            _ => false,
-        },
-        _ => false,
-    }
-}
-
-fn is_workload(mark: Mark) -> bool
+pub(crate) fn is_workload(mark: Mark) -> bool
     ensures { result ≡ tokens.is_workload mark }
 {
     match mark {
@@ -249,7 +236,7 @@ fn also_reserved(version: Version) -> &'static [Mark]
 }
 
 /// The token as a version has it: a word is a mark where the version reserves it.
-pub fn lexeme_in<'a>(version: Version, lexeme: Lexeme<'a>) -> Lexeme<'a>
+pub(crate) fn lexeme_in<'a>(version: Version, lexeme: Lexeme<'a>) -> Lexeme<'a>
     ensures { plain_lexeme result ≡ tokens.lexeme_in version (plain_lexeme lexeme.entry) }
 {
     match lexeme {
