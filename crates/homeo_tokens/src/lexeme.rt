@@ -88,12 +88,26 @@ fn is_word(b: u8) -> bool
     is_letter(b) || is_digit(b) || b == b'_'
 }
 
-/// Whether a mark is spelled so. Most are told apart by their lengths.
+/// Whether two texts are one. They are compared byte by byte, since most are short and unlike.
+fn is_same(left: &[u8], right: &[u8]) -> bool
+    ensures { result ≡ bytes_eq left.now right.now }
+{
+    if left.len() != right.len() {
+        return false;
+    }
+    for place in 0..left.len() {
+        if left[place] != right[place] {
+            return false;
+        }
+    }
+    true
+}
+
+/// Whether a mark is spelled so.
 fn is_spelled(mark: Mark, text: &[u8]) -> bool
     ensures { result ≡ bytes_eq text.now (mark_text mark) }
 {
-    let word = mark.text();
-    text.len() == word.len() && text == word
+    is_same(text, mark.text())
 }
 
 /// The mark among these that is spelled so.
