@@ -1,6 +1,6 @@
 -- Keys tell calls apart as the definition does, and the set of them stays beside the calls.
-use Rattle.std.proofs.Common.{◌≡◌, ℕ, ◌+◌, ℤ, Bool, true, false, ◌&&◌, ◌==◌, List, [], ◌∷◌, ◌++◌, map, refl, sym, ap, ◌∙◌}
-use Rattle.std.specs.Prelude.{◌||◌, not, if◌then◌else◌}
+use Rattle.std.proofs.Common.{◌≡◌, ℕ, ◌+◌, ℤ, Bool, true, false, cond, ◌&&◌, ◌==◌, Some, None, List, [], ◌∷◌, ◌++◌, length, map, refl, sym, ap, ◌∙◌}
+use Rattle.std.specs.Prelude.{◌||◌, not, if◌then◌else◌, nat_lt, position}
 use Rattle.std.specs.Ordering.{int_eq}
 use Rattle.std.specs.List.{list_any, position_or_len}
 use Rattle.std.specs.Cmp.Lexicographic.{pointwise}
@@ -56,14 +56,24 @@ unfolding meaning_definitions
 place-unplaced u [] = refl
 place-unplaced u (v ∷ us) = ap (λ (n : ℕ). if not (same_ground u v) then 1 + n else 0) (place-unplaced u us)
 
+found_at : (n : ℕ) (b : Bool) (place : ℕ) → Some place ≡ cond b (Some n) None → place ≡ n
+found_at n true place found = cc
+found_at n false place found = cc
+
 -- a key and a call that are put to those before them
 module _ (ks : List Key) (cs : List SitedCall) (k : Key) (c : SitedCall) (keys : map call_of ks ≡ map unplaced (map sited cs)) (key : call_of k ≡ unplaced (sited c)) where
-  there : list_any (same_key k) ks ≡ list_any (same_ground (sited c)) (map sited cs)
+  pub there : list_any (same_key k) ks ≡ list_any (same_ground (sited c)) (map sited cs)
   there = any-keys k ks ∙ (λ i. list_any (same_ground (key i)) (keys i)) ∙ any-unplaced (sited c) (map sited cs)
 
   pub place-is : position_or_len (same_key k) ks ≡ place_among (map sited cs) (sited c)
   unfolding definitions
   place-is = place-keys k ks ∙ (λ i. position_or_len (same_ground (key i)) (keys i)) ∙ place-unplaced (sited c) (map sited cs)
+
+  pub absent : false ≡ list_any (same_key k) ks → list_any (same_ground (sited c)) (map sited cs) ≡ false
+  absent none = sym there ∙ sym none
+
+  pub place-found : (place : ℕ) → Some place ≡ position (same_key k) ks → place ≡ place_among (map sited cs) (sited c)
+  place-found place found = found_at (position_or_len (same_key k) ks) (nat_lt (position_or_len (same_key k) ks) (length ks)) place found ∙ place-is
 
   abbrev keys_after : Bool → List Key
   keys_after b = if b then ks else ks ++ k ∷ []
@@ -82,12 +92,12 @@ module _ (ks : List Key) (cs : List SitedCall) (k : Key) (c : SitedCall) (keys :
   after true = refl
   after false = map-append sited cs (c ∷ [])
 
-  module _ (found : List Key) (made : List SitedCall) (is_new : Bool) (f : found ≡ keys_after (list_any (same_key k) ks)) (n : is_new ≡ not (list_any (same_key k) ks)) (m : made ≡ calls_after is_new) where
+  module _ (made : List SitedCall) (known : Bool) (t : list_any (same_key k) ks ≡ known) (m : made ≡ calls_after (not known)) where
     made_is : made ≡ calls_after (not (list_any (same_key k) ks))
-    made_is = m ∙ ap calls_after n
+    made_is = m ∙ ap (λ (b : Bool). calls_after (not b)) (sym t)
 
-    pub keys-stand : map call_of found ≡ map unplaced (map sited made)
-    keys-stand = ap (map call_of) f ∙ stand (list_any (same_key k) ks) ∙ sym (ap (λ (l : List SitedCall). map unplaced (map sited l)) made_is)
+    pub keys-stand : (found : List Key) → found ≡ keys_after (list_any (same_key k) ks) → map call_of found ≡ map unplaced (map sited made)
+    keys-stand found f = ap (map call_of) f ∙ stand (list_any (same_key k) ks) ∙ sym (ap (λ (l : List SitedCall). map unplaced (map sited l)) made_is)
 
     pub calls-put : map sited made ≡ distinct_after (map sited cs) (sited c ∷ [])
     unfolding meaning_definitions

@@ -1,7 +1,8 @@
 //! The distinct ground calls among calls that are put one after another.
 
-ghost use Rattle.std.specs.Prelude.{◌≡◌, [], ◌∷◌, ◌++◌, map, if◌then◌else◌, IfOk, OnOk};
-ghost use Rattle.homeo_meaning.specs.NumberRules.{distinct_after};
+ghost use Rattle.std.specs.Prelude.{◌≡◌, [], ◌∷◌, false, IfOk, OnOk};
+ghost use Rattle.std.specs.List.{list_any};
+ghost use Rattle.homeo_meaning.specs.NumberRules.{same_ground, distinct_after};
 ghost use Rattle.homeo_ground.specs.Grounding.{place_among};
 ghost use Rattle.homeo_ground.specs.Sited.{sited};
 ghost use Rattle.homeo_ground.specs.inner.Keys.{sited_all, AreKeys};
@@ -17,19 +18,8 @@ use std::alloc::Global;
 pub(crate) struct DistinctCalls<'a> {
     pub keys: IndexSet<Key>,
     pub calls: Vec<SitedCall<'a>>,
-}
-
-fn push_new<'a>(
-    calls: &mut Vec<SitedCall<'a>>,
-    is_new: bool,
-    call: SitedCall<'a>,
-) -> Result<(), Memory>
-    ensures { OnOk result (calls.new.items ≡ (if is_new then calls.old.items ++ call.entry ∷ [] else calls.old.items)) }
-{
-    if is_new {
-        calls.push(call)?;
-    }
-    Ok(())
+    /// The key of the call that was put last, whose memory serves the next: most calls are none that is new.
+    last: Key,
 }
 
 impl<'a> DistinctCalls<'a> {
@@ -41,7 +31,22 @@ impl<'a> DistinctCalls<'a> {
         DistinctCalls {
             keys: IndexSet::new(alloc),
             calls: Vec::new(alloc),
+            last: Key::new(alloc),
         }
+    }
+
+    /// The place of a call that is new, after it is put behind the calls.
+    fn put_new(&mut self, alloc: Global, call: SitedCall<'a>) -> Result<usize, Memory>
+        requires keys { AreKeys self.old }
+        requires new { list_any (same_ground (sited call)) (sited_all self.old) ≡ false }
+        ensures keys { OnOk result (AreKeys self.new) }
+        ensures calls { OnOk result (sited_all self.new ≡ distinct_after (sited_all self.old) (sited call.entry ∷ [])) }
+        ensures place { IfOk result (λ place. place ≡ place_among (sited_all self.new) (sited call.entry)) }
+    {
+        let key = key_of(alloc, call)?;
+        let (place, _) = self.keys.insert_full(key)?;
+        self.calls.push(call)?;
+        Ok(place)
     }
 
     /// The place of a call, after it is put behind the calls if none of them is the same ground call.
@@ -51,9 +56,10 @@ impl<'a> DistinctCalls<'a> {
         ensures calls { OnOk result (sited_all self.new ≡ distinct_after (sited_all self.old) (sited call.entry ∷ [])) }
         ensures place { IfOk result (λ place. place ≡ place_among (sited_all self.new) (sited call.entry)) }
     {
-        let key = key_of(alloc, call)?;
-        let (place, is_new) = self.keys.insert_full(key)?;
-        push_new(&mut self.calls, is_new, call)?;
-        Ok(place)
+        self.last.put(call)?;
+        match self.keys.get_index_of(&self.last) {
+            Some(place) => Ok(place),
+            None => self.put_new(alloc, call),
+        }
     }
 }

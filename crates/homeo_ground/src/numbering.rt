@@ -36,8 +36,9 @@ fn number_client<'a>(
     ensures places { IfOk result (λ places. places.items ≡
         map (place_among (sited_all distinct.new)) (sited_calls_of (plain_client client.now))) }
 {
-    let mut places = Vec::new(alloc);
-    for call in client.calls.as_slice() {
+    let calls = client.calls.as_slice();
+    let mut places = Vec::with_capacity(alloc, calls.len())?;
+    for call in calls {
         let call = SitedCall {
             name: call.name,
             args: call.args.as_slice(),
@@ -62,7 +63,7 @@ fn number_each<'a>(
     ensures places { IfOk result (λ all. map (λ places. places.items) all.items ≡
         places_among (sited_all distinct.new) (map plain_client clients.now)) }
 {
-    let mut places = Vec::new(alloc);
+    let mut places = Vec::with_capacity(alloc, clients.len())?;
     for client in clients {
         let numbers = number_client(alloc, client, distinct)?;
         places.push(numbers)?;

@@ -1,6 +1,6 @@
 //! Calls with their arguments and sites.
 
-ghost use Rattle.std.specs.Prelude.{◌≡◌, ◌<◌, ◌^◌, length, map, IfOk};
+ghost use Rattle.std.specs.Prelude.{◌≡◌, ◌<◌, ◌^◌, length, map, IfOk, OnOk};
 ghost use Rattle.homeo_meaning.specs.Ground.{plain_ground};
 ghost use Rattle.homeo_ground.specs.Sited.{sited, values};
 ghost use Rattle.homeo_ground.specs.inner.Grounds.{ground_by, IsSite};
@@ -26,6 +26,17 @@ pub(crate) fn values(alloc: Global, numbers: &[Number]) -> Result<Vec<i64>, Memo
     ensures { IfOk result (λ made. made.items ≡ values numbers.now) }
 {
     Ok(numbers.iter().map(|number| number.value).collect(alloc)?)
+}
+
+/// Makes of a list the values of numbers, in the memory that it has where they fit.
+pub(crate) fn put_values(list: &mut Vec<i64>, numbers: &[Number]) -> Result<(), Memory>
+    ensures { OnOk result (list.new.items ≡ values numbers.now) }
+{
+    list.clear();
+    for number in numbers {
+        list.push(number.value)?;
+    }
+    Ok(())
 }
 
 /// The ground call of a call, with its transaction by its number.

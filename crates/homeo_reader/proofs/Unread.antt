@@ -1,5 +1,5 @@
 -- A text at fault reads as no workload, and a text reads as one at most.
-use Rattle.std.proofs.Common.{◌≡◌, ℕ, Bool, true, false, List, [], ◌∷◌, refl, subst, ap, ◌∙◌, sym, inl, inr, not, ◌+◌, length, map, cond}
+use Rattle.std.proofs.Common.{◌≡◌, ℕ, Bool, true, false, List, [], ◌∷◌, refl, subst, ap, ◌∙◌, sym, inl, inr, not, ◌+◌, length, cond}
 use Rattle.std.specs.Prelude.{Option, Some, None, Result, Ok, Err, IfOk, position, ◌&&◌}
 use Rattle.std.specs.List.{list_all, position_from}
 use Rattle.std.specs.Result.{result_map_both}
@@ -15,11 +15,10 @@ use Rattle.homeo_syntax.specs.WellFormed.{IsWellFormed}
 use Rattle.homeo_syntax.specs.declared.workload.Workload.{Workload}
 use Rattle.homeo_syntax.specs.SourceView.{plain_workload}
 use Rattle.homeo_syntax.specs.Grammar.{IsFault}
-use Rattle.homeo_tokens.specs.declared.scanner.Scanned.{Scanned as Written}
+use Rattle.homeo_tokens.specs.declared.numbering.Numbered.{Numbered}
 use Rattle.homeo_tokens.specs.declared.scanner.ScanError.{ScanError}
 use Rattle.homeo_tokens.specs.declared.scanner.ScanError.TheVariants as scan
-use Rattle.homeo_tokens.specs.Scans.{Stops}
-use Rattle.homeo_tokens.specs.Views.{plain_scanned}
+use Rattle.homeo_tokens.specs.Scans.{IsScanned, Stops}
 use Rattle.homeo_reader.specs.declared.parser.Fault.{Fault}
 use Rattle.homeo_reader.specs.declared.parser.Fault.TheVariants as fault
 use Rattle.homeo_reader.specs.declared.reader.ReadRefusal.{ReadRefusal}
@@ -140,16 +139,10 @@ parsed_with text scanned (Err (Refused r)) clean e p =
       at = ap (λ (r : Refusal). r.offset) p.2;
     }))
 
-pub parsed : (text : List ℕ) (items written lent : List Written) (v : Version) (names : List (List ℕ)) (numbered tokens : List Token) (x : Result Workload ReadRefusal) →
-    position (λ b. not (is_good b)) text ≡ None →
-    scanned_of text ≡ Ok (map plain_scanned items) → written ≡ items → names ≡ names_of (map plain_scanned written) →
-    numbered ≡ tokens_in (names_of (map plain_scanned written)) (map plain_scanned written) → tokens ≡ numbered → lent ≡ items → v ≡ version_of (map plain_scanned lent) → ParsesExactly v names tokens (length text) x →
-    ReadsExactly text x
-parsed text items written lent v names numbered tokens x clean e w n t u l o p =
-    let all : names ≡ names_of (map plain_scanned items) = n ∙ ap (λ (l : List Written). names_of (map plain_scanned l)) w in
-    let each : tokens ≡ tokens_in (names_of (map plain_scanned items)) (map plain_scanned items) = u ∙ t
-    ∙ ap (λ (l : List Written). tokens_in (names_of (map plain_scanned l)) (map plain_scanned l)) w in
-    parsed_with text (map plain_scanned items) x (clean_text text clean) e
-    (subst (λ (ts : List Token). ParsesExactly (version_of (map plain_scanned items)) (names_of (map plain_scanned items)) ts (length text) x) each
-    (subst (λ (l : List (List ℕ)). ParsesExactly (version_of (map plain_scanned items)) l tokens (length text) x) all
-    (subst (λ (v : Version). ParsesExactly v names tokens (length text) x) (o ∙ ap (λ (l : List Written). version_of (map plain_scanned l)) l) p)))
+pub parsed : (text : List ℕ) (n : Numbered) (tokens : List Token) (x : Result Workload ReadRefusal) → position (λ b. not (is_good b)) text ≡ None → IsScanned text n → tokens ≡ n.tokens.items →
+    ParsesExactly n.version n.names.items tokens (length text) x → ReadsExactly text x
+parsed text n tokens x clean is t p =
+    parsed_with text is.scanned x (clean_text text clean) is.lexemes
+    (subst (λ (ts : List Token). ParsesExactly (version_of is.scanned) (names_of is.scanned) ts (length text) x) (t ∙ is.tokens)
+    (subst (λ (l : List (List ℕ)). ParsesExactly (version_of is.scanned) l tokens (length text) x) is.names
+    (subst (λ (v : Version). ParsesExactly v n.names.items tokens (length text) x) is.version p)))

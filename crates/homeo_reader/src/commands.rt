@@ -6,7 +6,7 @@ ghost use Rattle.homeo_reader.specs.inner.Reading.{Gives};
 ghost use Rattle.homeo_reader.specs.inner.Commands.{command_views, block_view, abort_read, command_read, if_read, foreach_read, next_command_read, commands_read, block_read};
 
 use crate::conditions::Visit;
-use crate::parser::{Fault, Parser, list_of};
+use crate::parser::{Fault, Parser, append, list_of};
 use homeo_syntax::{Command, Kind, List, Mark, Version};
 use std::alloc::Global;
 
@@ -183,7 +183,7 @@ impl<'a> Parser<'a> {
     {
         let mut items = Vec::new(alloc);
         'more: while let Some(item) = self.next_command(alloc, version, room)? {
-            items.push(item)?;
+            append(&mut items, item)?;
         }
         Ok(items)
     }

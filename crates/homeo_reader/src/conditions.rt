@@ -4,7 +4,7 @@ ghost use Rattle.std.specs.Prelude.{◌≡◌, ◌<◌, ◌∷◌, option_map, I
 ghost use Rattle.homeo_syntax.specs.SourceView.{plain_test, plain_cond, tests};
 ghost use Rattle.homeo_reader.specs.inner.Reading.{Gives, same, test_views, visit_view, comparison_do, test_read, next_test_read, tests_read, cond_read, visit_read};
 
-use crate::parser::{Fault, Parser, list_of};
+use crate::parser::{Fault, Parser, append, list_of};
 use homeo_syntax::{Compare, Cond, Ident, Mark, Test};
 use std::alloc::Global;
 
@@ -82,7 +82,7 @@ impl<'a> Parser<'a> {
     {
         let mut items = Vec::new(alloc);
         'more: while let Some(item) = self.next_test(alloc, room)? {
-            items.push(item)?;
+            append(&mut items, item)?;
         }
         Ok(items)
     }

@@ -7,7 +7,7 @@ ghost use Rattle.homeo_syntax.specs.Rules.{product_of, sum_of};
 ghost use Rattle.homeo_reader.specs.inner.Reading.{Gives, expr_views, field_rest, after_name_read, count_rest, total_rest, factor_read, next_factor_read, factors_read, term_read, next_term_read, terms_read, expr_read};
 
 use crate::conditions::Visit;
-use crate::parser::{Fault, Parser, list_of};
+use crate::parser::{Fault, Parser, append, list_of};
 use homeo_syntax::{Expr, Ident, Kind, Mark};
 use std::alloc::Global;
 
@@ -171,7 +171,7 @@ impl<'a> Parser<'a> {
     {
         let mut items = Vec::new(alloc);
         'more: while let Some(item) = self.next_factor(alloc, room)? {
-            items.push(item)?;
+            append(&mut items, item)?;
         }
         Ok(items)
     }
@@ -214,7 +214,7 @@ impl<'a> Parser<'a> {
     {
         let mut items = Vec::new(alloc);
         'more: while let Some(item) = self.next_term(alloc, room)? {
-            items.push(item)?;
+            append(&mut items, item)?;
         }
         Ok(items)
     }

@@ -1,6 +1,6 @@
 //! The tokens that are left, and what takes one of them.
 
-ghost use Rattle.std.specs.Prelude.{◌≡◌, ◌∷◌, IfOk, IfErr};
+ghost use Rattle.std.specs.Prelude.{◌≡◌, [], ◌∷◌, ◌++◌, IfOk, IfErr, OnOk};
 ghost use Rattle.homeo_reader.specs.inner.Reading.{Gives, TakesMark, ident_read, mark_read, same};
 
 use homeo_syntax::{Ident, Kind, List, Mark, Memory, Token};
@@ -109,11 +109,25 @@ impl<'a> Parser<'a> {
     }
 }
 
-/// One item and then others, as a list.
+/// Appends an item. The first takes room for two: most lists are of this one and of one that was read before.
+pub(crate) fn append<T: Drop>(items: &mut Vec<T>, item: T) -> Result<(), Fault>
+    ensures items { OnOk result (items.new.items ≡ items.old.items ++ item ∷ []) }
+    ensures memory { IfErr result (λ e. e ≡ Fault.Memory) }
+{
+    if items.is_empty() {
+        items.reserve_exact(2)?;
+    }
+    items.push(item)?;
+    Ok(())
+}
+
+/// One item and then others, as a list that takes no more memory than it needs.
 pub(crate) fn list_of<T: Drop>(first: T, mut others: Vec<T>) -> Result<List<T>, Fault>
     ensures ok { IfOk result (λ l. l.items ≡ first ∷ others.items) }
     ensures memory { IfErr result (λ e. e ≡ Fault.Memory) }
 {
+    others.reserve_exact(1)?;
     others.insert(0, first)?;
+    others.shrink_to_fit();
     Ok(List::from_vec(others))
 }

@@ -9,7 +9,7 @@ ghost use Rattle.homeo_reader.specs.inner.Exact.{ReadsExactly, ParsesExactly};
 
 use crate::parser::{Fault, Parser};
 use homeo_syntax::{List, Refusal, Text, Token, Version, Workload};
-use homeo_tokens::{Numbered, ScanError, first_bad_byte, number_names, scan, version_of};
+use homeo_tokens::{Numbered, ScanError, first_bad_byte, scan};
 use std::alloc::Global;
 
 /// Why no workload was read.
@@ -91,19 +91,17 @@ fn read_exactly(alloc: Global, bytes: &[u8]) -> Result<Workload, ReadRefusal>
     if let Some(offset) = first_bad_byte(bytes) {
         return Err(refused(BAD_BYTE, offset as u64));
     }
-    let scanned = match scan(alloc, bytes) {
-        Ok(scanned) => scanned,
+    let numbered = match scan(alloc, bytes) {
+        Ok(numbered) => numbered,
         Err(ScanError::Memory) => return Err(ReadRefusal::Memory),
         Err(ScanError::At(offset)) => return Err(refused(NO_TOKEN, offset as u64)),
     };
-    let version = version_of(scanned.as_slice());
-    match number_names(alloc, scanned.as_slice()) {
-        Ok(numbered) => {
-            let Numbered { tokens, names } = numbered;
-            parse(alloc, version, tokens.as_slice(), names, bytes.len() as u64)
-        }
-        Err(_) => Err(ReadRefusal::Memory),
-    }
+    let Numbered {
+        version,
+        tokens,
+        names,
+    } = numbered;
+    parse(alloc, version, tokens.as_slice(), names, bytes.len() as u64)
 }
 
 /// Reads the workload of a text, given as its bytes, of which there are at most 1,048,576. It takes time linear in

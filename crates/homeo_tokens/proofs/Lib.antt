@@ -1,4 +1,4 @@
 pub mod Front
+pub mod Growing
 pub mod Names
 pub mod Steps
-pub mod Versions

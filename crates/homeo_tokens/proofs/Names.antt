@@ -1,18 +1,14 @@
 -- The place of a name among names to which others are put.
-use Rattle.std.proofs.Common.{◌≡◌, ℕ, ◌+◌, Bool, true, false, List, [], ◌∷◌, ◌++◌, length, get_or, map, drop, append_assoc, add-one, drop-cons, ◌<◌, refl, sym, ap, ◌∙◌}
+use Rattle.std.proofs.Common.{◌≡◌, ℕ, ◌+◌, Bool, true, false, List, [], ◌∷◌, ◌++◌, map, refl, sym, ap, ◌∙◌}
 use Rattle.std.specs.Prelude.{◌||◌, not, if◌then◌else◌}
 use Rattle.std.specs.Borrow.{Bor}
 use Rattle.std.specs.List.{list_any, position_or_len}
 use Rattle.std.specs.Str.{bytes_eq}
 use Rattle.std.proofs.lemmas.List.{map-append}
 use Rattle.homeo_syntax.specs.Lexemes.{Lexeme, Name, Number, Fixed}
-use Rattle.homeo_syntax.specs.declared.token.Kind.{Kind}
 use Rattle.homeo_syntax.specs.declared.token.Kind.TheVariants as kind
-use Rattle.homeo_syntax.specs.declared.token.Token.{Token}
-use Rattle.homeo_syntax.specs.Tokens.{Scanned, with_name, with_lexeme, names_after, place_of, kind_in, tokens_in}
+use Rattle.homeo_syntax.specs.Tokens.{Scanned, with_name, with_lexeme, names_after, place_of, kind_in}
 use Rattle.homeo_syntax.proofs.Names.{bytes_same, any_put, any_lexeme}
-use Rattle.homeo_tokens.specs.declared.scanner.Scanned.{Scanned as Written}
-use Rattle.homeo_tokens.specs.Views.{plain_lexeme, plain_scanned}
 
 abbrev Ref : Type 0
 Ref = Bor (List ℕ)
@@ -84,28 +80,7 @@ place_after w [] names h = refl
 place_after w (t ∷ ts) names h =
     place_after w ts (with_lexeme names t.lexeme) (any_lexeme w t.lexeme names h) ∙ after_lexeme w t.lexeme names h
 
-kind_after : (names : List (List ℕ)) (l : Lexeme) (ts : List Scanned) → kind_in (names_after (with_lexeme names l) ts) l ≡ kind_in (with_lexeme names l) l
+pub kind_after : (names : List (List ℕ)) (l : Lexeme) (ts : List Scanned) → kind_in (names_after (with_lexeme names l) ts) l ≡ kind_in (with_lexeme names l) l
 kind_after names (Name w) ts = ap (λ (n : ℕ). kind.Name n) (place_after w ts (with_name names w) (any_put names w))
 kind_after names (Number n) ts = refl
 kind_after names (Fixed m) ts = refl
-
--- One more token is numbered.
-module _ (scanned : List Written) (i : ℕ) (d : Written) (old new : List (List ℕ)) (h : i < length scanned) (put : new ≡ with_lexeme old (plain_lexeme (get_or scanned i d).lexeme)) (all : List (List ℕ)) (names : names_after old (map plain_scanned (drop i scanned)) ≡ all) where
-  here : drop i scanned ≡ get_or scanned i d ∷ drop (i + 1) scanned
-  here = rw add-one (drop-cons scanned i d h)
-
-  pub names_step : names_after new (map plain_scanned (drop (i + 1) scanned)) ≡ all
-  names_step =
-      ap (λ (n : List (List ℕ)). names_after n (map plain_scanned (drop (i + 1) scanned))) put
-      ∙ sym (ap (λ (ts : List Written). names_after old (map plain_scanned ts)) here) ∙ names
-
-  pub tokens_step : (tokens after : List Token) (k : Kind) → k ≡ kind_in new (plain_lexeme (get_or scanned i d).lexeme) → after ≡ tokens ++ record { kind = k; offset = (get_or scanned i d).offset } ∷ [] →
-      tokens ++ tokens_in all (map plain_scanned (drop i scanned)) ≡ tokens_in all (map plain_scanned scanned) → after ++ tokens_in all (map plain_scanned (drop (i + 1) scanned)) ≡ tokens_in all (map plain_scanned scanned)
-  tokens_step tokens after k e pushed whole =
-      let l = plain_lexeme (get_or scanned i d).lexeme in
-      let same : k ≡ kind_in all l = e ∙ ap (λ (n : List (List ℕ)). kind_in n l) put ∙ sym (kind_after old l (map plain_scanned (drop (i + 1) scanned)))
-      ∙ ap (λ (n : List (List ℕ)). kind_in (names_after n (map plain_scanned (drop (i + 1) scanned))) l) (sym put) ∙ ap (λ (n : List (List ℕ)). kind_in n l) names_step in
-      ap (λ (ts : List Token). ts ++ tokens_in all (map plain_scanned (drop (i + 1) scanned))) pushed
-      ∙ append_assoc tokens (record { kind = k; offset = (get_or scanned i d).offset } ∷ []) (tokens_in all (map plain_scanned (drop (i + 1) scanned)))
-      ∙ ap (λ (k : Kind). tokens ++ (record { kind = k; offset = (get_or scanned i d).offset } ∷ tokens_in all (map plain_scanned (drop (i + 1) scanned)))) same
-      ∙ sym (ap (λ (ts : List Written). tokens ++ tokens_in all (map plain_scanned ts)) here) ∙ whole

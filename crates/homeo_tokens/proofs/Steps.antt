@@ -1,6 +1,6 @@
 -- One turn of the scan is one step of the lexemes.
-use Rattle.std.proofs.Common.{◌≡◌, ℕ, zero, suc, ◌+◌, ◌-◌, ◌^◌, ◌<◌, ◌≤◌, Bool, true, false, IsTrue, List, [], ◌∷◌, ◌++◌, length, get_or, map, take, drop, slice_index, refl, sym, ap, subst, ◌∙◌, arith, to_z, w64, length-drop, length-append, add-one, drop-cons, append_assoc, inl, inr}
-use Rattle.std.proofs.lemmas.List.{drop-drop, append-nil, get_or-take, take_all, map-append}
+use Rattle.std.proofs.Common.{◌≡◌, ℕ, zero, suc, ◌+◌, ◌-◌, ◌^◌, ◌<◌, ◌≤◌, Bool, true, false, IsTrue, List, [], ◌∷◌, ◌++◌, length, get_or, take, drop, slice_index, refl, sym, ap, subst, ◌∙◌, arith, to_z, w64, length-drop, add-one, drop-cons, append_assoc, inl, inr}
+use Rattle.std.proofs.lemmas.List.{drop-drop, append-nil, get_or-take, take_all}
 use Rattle.std.proofs.Math.ListN.{drop_of_length-le, get_or-eq_default}
 use Rattle.std.proofs.lemmas.List.Folds.{length-prefix_len}
 use Rattle.std.proofs.lemmas.List.Sums.{prefix_len-le-length, prefix_len_passes}
@@ -14,8 +14,6 @@ use Rattle.homeo_syntax.specs.declared.token.Mark.{Mark}
 use Rattle.homeo_syntax.specs.Lexemes.{Lexeme, Number, is_space, is_letter, is_digit, is_word, value_after, number_value, look_up, reserved, double_symbols, single_symbols, longest, symbol_lexeme, word_as, word_lexeme, number_lexeme, lexeme_of}
 use Rattle.homeo_syntax.specs.Tokens.{Scanned, scanned_from, found, in_front}
 use Rattle.homeo_syntax.proofs.Spelling.{letter_word}
-use Rattle.homeo_tokens.specs.declared.scanner.Scanned.{Scanned as Written}
-use Rattle.homeo_tokens.specs.Views.{plain_scanned}
 use Rattle.homeo_tokens.proofs.Front.{in_front_all}
 
 -- a few digits fit
@@ -153,9 +151,3 @@ front_none front = ap Ok (append-nil front)
 
 pub rest_of_text : (text : List ℕ) (at : ℕ) (o : Option (Lexeme × ℕ)) → o ≡ lexeme_of (take (length text - at) (drop at text)) → lexeme_of (drop at text) ≡ o
 rest_of_text text at o e = ap lexeme_of (sym (take_all (length text - at) (drop at text) (omega (arith, length-drop at text)))) ∙ sym e
-
-pub scanned_push : (new old : List Written) (t : Written) → new ≡ old ++ t ∷ [] → map plain_scanned new ≡ map plain_scanned old ++ plain_scanned t ∷ []
-scanned_push new old t h = ap (map plain_scanned) h ∙ map-append plain_scanned old (t ∷ [])
-
-pub pushed_len : {A : Type 0} → (new old : List A) (t : A) → new ≡ old ++ t ∷ [] → length new ≡ length old + 1
-pushed_len new old t h = ap length h ∙ length-append old (t ∷ []) ∙ omega arith

@@ -1,8 +1,6 @@
--- What scanned tokens stand for, wherever the text lies in memory.
+-- What lexemes stand for, wherever the text lies in memory.
 use Rattle.std.specs.Prelude.{ℕ, Option, option_map}
 use Rattle.homeo_syntax.specs.Lexemes as s
-use Rattle.homeo_syntax.specs.Tokens as t
-use Rattle.homeo_tokens.specs.declared.scanner.Scanned.{Scanned}
 use Rattle.homeo_tokens.specs.declared.lexeme.Lexeme.{Lexeme}
 use Rattle.homeo_tokens.specs.declared.lexeme.Lexeme.TheVariants.{Name, Number, Fixed}
 
@@ -14,6 +12,3 @@ plain_lexeme (Fixed m) = s.Fixed m
 -- a lexeme and its length, or none
 abbrev pub plain_found : Option (Lexeme × ℕ) → Option (s.Lexeme × ℕ)
 plain_found o = option_map (λ l. (plain_lexeme l.0, l.1)) o
-
-abbrev pub plain_scanned : Scanned → t.Scanned
-plain_scanned t = record { lexeme = plain_lexeme t.lexeme; offset = t.offset }

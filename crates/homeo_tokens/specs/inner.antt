@@ -1,2 +1,3 @@
 pub mod Lexemes
 pub mod Names
+pub mod Numbers

@@ -88,12 +88,26 @@ fn is_word(b: u8) -> bool
     is_letter(b) || is_digit(b) || b == b'_'
 }
 
-/// Whether a mark is spelled so. Most are told apart by their lengths.
+/// Whether two texts are one. They are compared byte by byte, since most are short and unlike.
+fn is_same(left: &[u8], right: &[u8]) -> bool
+    ensures { result ≡ bytes_eq left.now right.now }
+{
+    if left.len() != right.len() {
+        return false;
+    }
+    for place in 0..left.len() {
+        if left[place] != right[place] {
+            return false;
+        }
+    }
+    true
+}
+
+/// Whether a mark is spelled so.
 fn is_spelled(mark: Mark, text: &[u8]) -> bool
     ensures { result ≡ bytes_eq text.now (mark_text mark) }
 {
-    let word = mark.text();
-    text.len() == word.len() && text == word
+    is_same(text, mark.text())
 }
 
 /// The mark among these that is spelled so.
@@ -216,20 +230,7 @@ fn number(digits: &[u8]) -> i64
     value as i64
 }
 
-/// Whether a text that begins with these two tokens is in version 2.
-pub fn begins_second(first: Lexeme<'_>, second: Lexeme<'_>) -> bool
-    ensures { result ≡ tokens.begins_second (plain_lexeme first.entry) (plain_lexeme second.entry) }
-{
-    match first {
-        Lexeme::Fixed(mark) => match second {
-            Lexeme::Number(n) => is_workload(mark) && n == 2,
-            _ => false,
-        },
-        _ => false,
-    }
-}
-
-fn is_workload(mark: Mark) -> bool
+pub(crate) fn is_workload(mark: Mark) -> bool
     ensures { result ≡ tokens.is_workload mark }
 {
     match mark {
@@ -249,7 +250,7 @@ fn also_reserved(version: Version) -> &'static [Mark]
 }
 
 /// The token as a version has it: a word is a mark where the version reserves it.
-pub fn lexeme_in<'a>(version: Version, lexeme: Lexeme<'a>) -> Lexeme<'a>
+pub(crate) fn lexeme_in<'a>(version: Version, lexeme: Lexeme<'a>) -> Lexeme<'a>
     ensures { plain_lexeme result ≡ tokens.lexeme_in version (plain_lexeme lexeme.entry) }
 {
     match lexeme {

@@ -6,5 +6,5 @@ mod numbering;
 mod scanner;
 
 pub use lexeme::{Lexeme, first_lexeme, is_space};
-pub use numbering::{Numbered, number_names};
-pub use scanner::{ScanError, Scanned, first_bad_byte, scan, version_of};
+pub use numbering::Numbered;
+pub use scanner::{ScanError, first_bad_byte, scan};

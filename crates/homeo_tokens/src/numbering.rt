@@ -1,22 +1,30 @@
 //! The names of a text as numbers (this project's rule).
 
-ghost use Rattle.std.specs.Prelude.{◌≡◌, ◌+◌, ◌<◌, ◌≤◌, ◌^◌, length, map, IfOk, OnOk};
+ghost use Rattle.std.specs.Prelude.{◌≡◌, ◌+◌, ◌<◌, ◌≤◌, ◌^◌, [], length, IfOk, OnOk};
 ghost use Rattle.indexmap.specs.IndexSet.{index_set_len};
-ghost use Rattle.homeo_syntax.specs.Tokens.{kind_in, names_of, tokens_in, with_lexeme};
-ghost use Rattle.homeo_tokens.specs.Views.{plain_lexeme, plain_scanned};
+ghost use Rattle.homeo_syntax.specs.Tokens.{kind_in, with_lexeme};
+ghost use Rattle.homeo_tokens.specs.Views.{plain_lexeme};
 ghost use Rattle.homeo_tokens.specs.inner.Names.{plain_names};
+ghost use Rattle.homeo_tokens.specs.inner.Numbers.{kinds_second, version_by, IsFew, Numbers, Adds};
 
-use crate::lexeme::Lexeme;
-use crate::scanner::Scanned;
-use homeo_syntax::{Kind, List, Memory, Text, Token};
+use crate::lexeme::{Lexeme, is_workload, lexeme_in};
+use homeo_syntax::{Kind, List, Memory, Text, Token, Version};
 use indexmap::IndexSet;
 use std::alloc::Global;
 
-/// The tokens of a text, and the distinct names that they number: a name token has its name's index, from 0.
+/// The version of a text, its tokens, and the distinct names that they number: a name token has its name's index, from 0.
 #[derive(Drop)]
 pub struct Numbered {
+    pub version: Version,
     pub tokens: Vec<Token>,
     pub names: List<Text>,
+}
+
+/// The tokens so far, and the distinct names that they number, where these stand in the text.
+#[derive(Drop)]
+pub(crate) struct Numbering<'a> {
+    pub names: IndexSet<&'a str>,
+    pub tokens: Vec<Token>,
 }
 
 /// What a token is, after its name is put behind the names if it is not among them.
@@ -47,27 +55,70 @@ fn copy_names(alloc: Global, names: &IndexSet<&str>) -> Result<List<Text>, Memor
     Ok(texts)
 }
 
-/// The tokens with each name as its index among the distinct names, which are in first-seen order. It takes time in
-/// proportion to their number.
-///
-/// # Errors
-///
-/// `Memory` when out of memory.
-pub fn number_names(alloc: Global, scanned: &[Scanned<'_>]) -> Result<Numbered, Memory>
-    requires { length scanned.now < 2 ^ 32 }
-    ensures names { IfOk result (λ n. n.names.items ≡ names_of (map plain_scanned scanned.now)) }
-    ensures tokens { let all = map plain_scanned scanned.now in
-        IfOk result (λ n. n.tokens.items ≡ tokens_in (names_of all) all) }
+/// Whether a text that begins with these two tokens is in version 2.
+fn begins_second(first: Kind, second: Kind) -> bool
+    ensures { result ≡ kinds_second first second }
 {
-    let mut names = IndexSet::new(alloc);
-    let mut tokens = Vec::new(alloc);
-    'token: for token in scanned {
-        let kind = number_lexeme(&mut names, token.lexeme)?;
-        tokens.push(Token {
-            kind,
-            offset: token.offset as u64,
-        })?;
+    match first {
+        Kind::Fixed(mark) => match second {
+            Kind::Number(n) => is_workload(mark) && n == 2,
+            _ => false,
+        },
+        _ => false,
     }
-    let names = copy_names(alloc, &names)?;
-    Ok(Numbered { tokens, names })
+}
+
+/// The version of a text with these tokens.
+fn version_of(tokens: &[Token]) -> Version
+    ensures { result ≡ version_by tokens.now }
+{
+    if tokens.len() > 1 && begins_second(tokens[0].kind, tokens[1].kind) {
+        Version::Second
+    } else {
+        Version::First
+    }
+}
+
+impl<'a> Numbering<'a> {
+    /// No tokens yet.
+    pub fn new(alloc: Global) -> Numbering<'a>
+        ensures few { IsFew result }
+        ensures numbers { Numbers [] result }
+    {
+        Numbering {
+            names: IndexSet::new(alloc),
+            tokens: Vec::new(alloc),
+        }
+    }
+
+    /// Puts a token at this offset behind the others. A word is a mark where the version of the text reserves it.
+    pub fn put(&mut self, lexeme: Lexeme<'a>, offset: usize) -> Result<(), Memory>
+        requires room { length self.old.tokens.items < 2 ^ 32 }
+        requires few { IsFew self.old }
+        ensures few { OnOk result (IsFew self.new) }
+        ensures more { OnOk result (length self.new.tokens.items ≡ length self.old.tokens.items + 1) }
+        ensures numbers { OnOk result (Adds self.old (record { lexeme = plain_lexeme lexeme.entry; offset = offset }) self.new) }
+    {
+        let lexeme = lexeme_in(version_of(self.tokens.as_slice()), lexeme);
+        let kind = number_lexeme(&mut self.names, lexeme)?;
+        self.tokens.push(Token {
+            kind,
+            offset: offset as u64,
+        })?;
+        Ok(())
+    }
+
+    /// The tokens with their version, and a copy of the names.
+    pub fn finish(self, alloc: Global) -> Result<Numbered, Memory>
+        ensures version { IfOk result (λ n. n.version ≡ version_by self.entry.tokens.items) }
+        ensures tokens { IfOk result (λ n. n.tokens.items ≡ self.entry.tokens.items) }
+        ensures names { IfOk result (λ n. n.names.items ≡ plain_names self.entry.names) }
+    {
+        let names = copy_names(alloc, &self.names)?;
+        Ok(Numbered {
+            version: version_of(self.tokens.as_slice()),
+            tokens: self.tokens,
+            names,
+        })
+    }
 }

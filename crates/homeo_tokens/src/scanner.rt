@@ -1,21 +1,13 @@
-//! The tokens of a text, before names have numbers (this project's rule).
+//! From a text to its tokens (this project's rule).
 
-ghost use Rattle.std.specs.Prelude.{◌≡◌, ◌≤◌, length, map, not, position, Ok, Err, IfOk, IfErr};
-ghost use Rattle.homeo_syntax.specs.Tokens.{is_good, version_of, scanned_in, unversioned, scanned_of};
-ghost use Rattle.homeo_syntax.specs.declared.token.Version.TheVariants.{Second};
-ghost use Rattle.homeo_tokens.specs.Views.{plain_scanned};
-ghost use Rattle.homeo_tokens.specs.Scans.{Stops};
+ghost use Rattle.std.specs.Prelude.{◌≡◌, ◌<◌, ◌^◌, length, not, position, IfOk, IfErr};
+ghost use Rattle.homeo_syntax.specs.Tokens.{is_good};
+ghost use Rattle.homeo_tokens.specs.Scans.{IsScanned, Stops};
 
-use crate::lexeme::{Lexeme, begins_second, first_lexeme, is_space, lexeme_in};
-use homeo_syntax::Version;
-use std::alloc::{AllocError, AllocFailed, Global};
-
-/// A token before names have numbers, and the offset of its first byte in the text, in bytes from 0.
-#[derive(Clone, Copy, Debug)]
-pub struct Scanned<'a> {
-    pub lexeme: Lexeme<'a>,
-    pub offset: usize,
-}
+use crate::lexeme::{first_lexeme, is_space};
+use crate::numbering::{Numbered, Numbering};
+use homeo_syntax::Memory;
+use std::alloc::Global;
 
 /// Why a text has no tokens.
 #[derive(Clone, Copy, Debug, PartialEq, Eq)]
@@ -26,24 +18,13 @@ pub enum ScanError {
     At(usize),
 }
 
-impl From<AllocError> for ScanError {
+impl From<Memory> for ScanError {
     ghost use Rattle.std.specs.Prelude.{◌≡◌};
-    ghost use Rattle.homeo_tokens.specs.declared.scanner.ScanError.TheVariants.{Memory};
+    ghost use Rattle.homeo_tokens.specs.declared.scanner.ScanError.TheVariants as error;
 
-    ghost from_gives = { λ _ e. e ≡ Memory };
+    ghost from_gives = { λ _ e. e ≡ error.Memory };
 
-    fn from(_e: AllocError) -> ScanError {
-        ScanError::Memory
-    }
-}
-
-impl<T: Drop> From<AllocFailed<T>> for ScanError {
-    ghost use Rattle.std.specs.Prelude.{◌≡◌};
-    ghost use Rattle.homeo_tokens.specs.declared.scanner.ScanError.TheVariants.{Memory};
-
-    ghost from_gives = { λ _ e. e ≡ Memory };
-
-    fn from(_e: AllocFailed<T>) -> ScanError {
+    fn from(_e: Memory) -> ScanError {
         ScanError::Memory
     }
 }
@@ -62,58 +43,19 @@ pub fn first_bad_byte(text: &[u8]) -> Option<usize>
     text.iter().position(|b| !is_good(*b))
 }
 
-/// The tokens of a text, in time in proportion to its length. What version the text is in, its first two tokens tell.
+/// The tokens of a text with each name as its index among the distinct names, which are in first-seen order, and the
+/// text's version, which its first two tokens tell. It takes time in proportion to the text's length.
 ///
 /// # Errors
 ///
 /// `At` with the offset of the first byte at which a token should begin and none does, in bytes from 0, and `Memory`
 /// when out of memory.
-pub fn scan(alloc: Global, text: &[u8]) -> Result<Vec<Scanned<'_>>, ScanError>
-    ensures tokens { IfOk result (λ v. scanned_of text.now ≡ Ok (map plain_scanned v.items)) }
-    ensures few { IfOk result (λ v. length v.items ≤ length text.now) }
+pub fn scan(alloc: Global, text: &[u8]) -> Result<Numbered, ScanError>
+    requires { length text.now < 2 ^ 32 }
+    ensures tokens { IfOk result (IsScanned text.now) }
     ensures stops { IfErr result (Stops text.now) }
 {
-    let tokens = scan_words(alloc, text)?;
-    match version_of(tokens.as_slice()) {
-        Version::First => Ok(tokens),
-        Version::Second => in_second(alloc, tokens.as_slice()),
-    }
-}
-
-/// The version of a text with these tokens.
-pub fn version_of(tokens: &[Scanned<'_>]) -> Version
-    ensures { result ≡ version_of (map plain_scanned tokens.now) }
-{
-    if tokens.len() > 1 && begins_second(tokens[0].lexeme, tokens[1].lexeme) {
-        Version::Second
-    } else {
-        Version::First
-    }
-}
-
-/// The tokens as version 2 has them: with marks for the words that it reserves alone.
-fn in_second<'a>(alloc: Global, tokens: &[Scanned<'a>]) -> Result<Vec<Scanned<'a>>, ScanError>
-    ensures tokens { IfOk result (λ v. map plain_scanned v.items ≡ map (scanned_in Second) (map plain_scanned tokens.now)) }
-    ensures few { IfOk result (λ v. length v.items ≡ length tokens.now) }
-    ensures memory { IfErr result (λ e. e ≡ ScanError.Memory) }
-{
-    let mut made = Vec::new(alloc);
-    for token in tokens {
-        made.push(Scanned {
-            lexeme: lexeme_in(Version::Second, token.lexeme),
-            offset: token.offset,
-        })?;
-    }
-    Ok(made)
-}
-
-/// The tokens of a text, where the words that only some version reserves are names.
-fn scan_words(alloc: Global, text: &[u8]) -> Result<Vec<Scanned<'_>>, ScanError>
-    ensures tokens { IfOk result (λ v. unversioned text.now ≡ Ok (map plain_scanned v.items)) }
-    ensures few { IfOk result (λ v. length v.items ≤ length text.now) }
-    ensures stops { IfErr result (Stops text.now) }
-{
-    let mut tokens = Vec::new(alloc);
+    let mut numbering = Numbering::new(alloc);
     let mut at = 0usize;
     'text: while at < text.len() {
         if is_space(text[at]) {
@@ -121,12 +63,13 @@ fn scan_words(alloc: Global, text: &[u8]) -> Result<Vec<Scanned<'_>>, ScanError>
         } else {
             match first_lexeme(&text[at..]) {
                 Some((lexeme, len)) => {
-                    tokens.push(Scanned { lexeme, offset: at })?;
+                    numbering.put(lexeme, at)?;
                     at += len;
                 }
                 None => return Err(ScanError::At(at)),
             }
         }
     }
-    Ok(tokens)
+    let numbered = numbering.finish(alloc)?;
+    Ok(numbered)
 }

@@ -5,12 +5,12 @@ use Rattle.homeo_ground.proofs.Calls.{sited-is, no-calls, client_calls-step, cli
 use Rattle.homeo_ground.proofs.numbering.number_client.Goals as goal
 
 pub loop-call-init : goal.loop-call-init
-loop-call-init c = record { keys = c.requires; calls = no-calls (sited_all c.args.distinct.now); places = c.new-places.ensures.items }
+loop-call-init c = record { keys = c.requires; calls = no-calls (sited_all c.args.distinct.now); places = c.in_ok-places.ensures.items }
 
 pub loop-call-preserved : goal.loop-call-preserved
 loop-call-preserved c =
     let client = c.args.client.now in
-    let calls = c.as_slice-call-items.result.now in
+    let calls = c.as_slice-calls.result.now in
     let item = c.call-item.result in
     let is = sited-is client item c.as_slice.result.now _ c.as_slice.ensures (search rules) in
     let so_far = c.loop-call.invariant in
@@ -26,11 +26,11 @@ loop-call-preserved c =
 
 pub returns-clause-calls : goal.returns-clause-calls
 returns-clause-calls c =
-    let calls = c.as_slice-call-items in
+    let calls = c.as_slice-calls in
     client_calls-whole c.args.client.now calls.result.now c.loop-call.call-index _ _ calls.ensures c.loop-call-test.false c.loop-call.invariant.calls
 
 pub returns-clause-places : goal.returns-clause-places
 returns-clause-places c =
-    let calls = c.as_slice-call-items in
+    let calls = c.as_slice-calls in
     let so_far = c.loop-call in
     client_places-whole c.args.client.now calls.result.now so_far.call-index _ _ calls.ensures c.loop-call-test.false so_far.invariant.places

@@ -9,6 +9,6 @@ use Rattle.homeo_ground.proofs.numbering.number_client.Given as goal
 abbrev pub invariant-loop-call : goal.invariant-loop-call
 invariant-loop-call l = record {
   keys : AreKeys l.distinct;
-  calls : sited_all l.distinct ≡ distinct_after (sited_all l.fn.distinct) (map (sited_at l.client) (take l.call-index l.call-items));
-  places : l.places.items ≡ map (place_among (sited_all l.distinct)) (map (sited_at l.client) (take l.call-index l.call-items));
+  calls : sited_all l.distinct ≡ distinct_after (sited_all l.fn.distinct) (map (sited_at l.client) (take l.call-index l.calls));
+  places : l.places.items ≡ map (place_among (sited_all l.distinct)) (map (sited_at l.client) (take l.call-index l.calls));
 }

@@ -8,7 +8,7 @@ pub loop-client-init : goal.loop-client-init
 loop-client-init c = record {
   keys = c.requires.keys;
   calls = c.requires.none ∙ no-calls [];
-  places = ap (map (λ places. places.items)) c.new-places.ensures.items ∙ no-places (sited_all c.args.distinct.now);
+  places = ap (map (λ places. places.items)) c.in_ok-places.ensures.items ∙ no-places (sited_all c.args.distinct.now);
 }
 
 pub loop-client-preserved : goal.loop-client-preserved

@@ -1,28 +1,19 @@
--- What is put is the distinct calls, and where.
-use Rattle.std.proofs.Common.{ap, ◌∙◌, sym}
-use Rattle.homeo_ground.specs.Grounding.{place_among}
-use Rattle.homeo_ground.specs.Sited.{sited}
-use Rattle.homeo_ground.specs.inner.Keys.{sited_all}
-use Rattle.homeo_ground.proofs.Distinct.{put-place}
-use Rattle.homeo_ground.proofs.Keys.{keys-stand, calls-put, place-is}
+-- A call that is known has the place of its key, and another is put.
+use Rattle.std.proofs.Common.{true, refl, sym}
+use Rattle.homeo_ground.proofs.Keys.{absent, place-found, calls-put}
 use Rattle.homeo_ground.proofs.distinct_calls.DistinctCalls.put.Goals as goal
 
-pub returns-clause-keys : goal.returns-clause-keys
-returns-clause-keys c =
+pub put_new-requires-clause-new : goal.put_new-requires-clause-new
+put_new-requires-clause-new c =
     let old = c.args.self.now in
-    let set = c.in_ok-place.ensures in
-    keys-stand old.keys.keys old.calls.items c.in_ok-key.key c.args.call c.requires c.in_ok-key.ensures _ _ _ set.keys set.added c.in_ok-push_new.ensures
+    absent old.keys.keys old.calls.items c.put.new.self c.args.call c.requires c.in_ok-put.ensures c.in-None.ensures.found
 
-pub returns-clause-calls : goal.returns-clause-calls
-returns-clause-calls c =
+pub returns-in-Some-clause-calls : goal.returns-in-Some-clause-calls
+returns-in-Some-clause-calls c =
     let old = c.args.self.now in
-    let set = c.in_ok-place.ensures in
-    calls-put old.keys.keys old.calls.items c.in_ok-key.key c.args.call c.requires c.in_ok-key.ensures _ _ _ set.keys set.added c.in_ok-push_new.ensures
+    calls-put old.keys.keys old.calls.items c.put.new.self c.args.call c.requires c.in_ok-put.ensures old.calls.items true (sym c.in-Some.ensures.found) refl
 
-pub returns-clause-place : goal.returns-clause-place
-returns-clause-place c =
+pub returns-in-Some-clause-place : goal.returns-in-Some-clause-place
+returns-in-Some-clause-place c =
     let old = c.args.self.now in
-    c.in_ok-place.ensures.index
-    ∙ place-is old.keys.keys old.calls.items c.in_ok-key.key c.args.call c.requires c.in_ok-key.ensures
-    ∙ sym (put-place (sited_all old) (sited c.args.call))
-    ∙ ap (λ l. place_among l (sited c.args.call)) (sym (returns-clause-calls c))
+    place-found old.keys.keys old.calls.items c.put.new.self c.args.call c.requires c.in_ok-put.ensures c.in-Some.place c.in-Some.ensures.index

@@ -10,7 +10,7 @@ use Rattle.homeo_reader.proofs.parser.Parser.+expr.Goals as goal
 pub factors-more-preserved : goal.factors-more-preserved
 unfolding factors_read next_factor_read
 factors-more-preserved t c =
-    goes_on c.args.room (each plain_expr) star_factor refl _ _ _ _ _ _ _ c.in_ok-item.ensures c.in-Some.is c.in_ok-push.ensures.items c.more.invariant
+    goes_on c.args.room (each plain_expr) star_factor refl _ _ _ _ _ _ _ c.in_ok-item.ensures c.in-Some.is c.in_ok-append.ensures.items c.more.invariant
 
 pub factors-more-smaller : goal.factors-more-smaller
 unfolding next_factor_read
@@ -28,7 +28,7 @@ factors-returns-in_err-item t c =
 pub terms-more-preserved : goal.terms-more-preserved
 unfolding terms_read next_term_read
 terms-more-preserved t c =
-    goes_on c.args.room (each plain_expr) (alt plus_term minus_term) refl _ _ _ _ _ _ _ c.in_ok-item.ensures c.in-Some.is c.in_ok-push.ensures.items
+    goes_on c.args.room (each plain_expr) (alt plus_term minus_term) refl _ _ _ _ _ _ _ c.in_ok-item.ensures c.in-Some.is c.in_ok-append.ensures.items
     c.more.invariant
 
 pub terms-more-smaller : goal.terms-more-smaller
@@ -47,7 +47,7 @@ terms-returns-in_err-item t c =
 pub tests-more-preserved : goal.tests-more-preserved
 unfolding tests_read next_test_read
 tests-more-preserved t c =
-    goes_on c.args.room (each plain_test) and_test refl _ _ _ _ _ _ _ c.in_ok-item.ensures c.in-Some.is c.in_ok-push.ensures.items c.more.invariant
+    goes_on c.args.room (each plain_test) and_test refl _ _ _ _ _ _ _ c.in_ok-item.ensures c.in-Some.is c.in_ok-append.ensures.items c.more.invariant
 
 pub tests-more-smaller : goal.tests-more-smaller
 unfolding next_test_read
