@@ -7,6 +7,7 @@ pub mod CommandSteps
 pub mod DeclarationSteps
 pub mod DeclarationsBack
 pub mod Deeper
+pub mod Digits
 pub mod ExpressionsBack
 pub mod FormulaSteps
 mod LaterMarks

@@ -8,7 +8,7 @@ ghost use Rattle.homeo_meaning.specs.Ground.{plain_ground};
 ghost use Rattle.homeo_print.specs.Names.{name_text};
 ghost use Rattle.homeo_print.specs.Calls.{more_arguments_text, arguments_text, call_text, ground_text};
 
-use crate::append::{push_bytes, push_signed};
+use crate::append::{push_byte, push_bytes, push_signed};
 use homeo_meaning::GroundCall;
 use homeo_syntax::{Ident, Memory, Text, Transaction, Workload};
 
@@ -62,9 +62,9 @@ pub fn push_call(out: &mut Vec<u8>, w: &Workload, name: Ident, args: &[i64]) -> 
         ≡ out.old.items ++ call_text (plain_workload w.now) name args.now) }
 {
     push_bytes(out, name_of(w, name))?;
-    push_bytes(out, b"(")?;
+    push_byte(out, b'(')?;
     push_arguments(out, args)?;
-    push_bytes(out, b")")
+    push_byte(out, b')')
 }
 
 fn transaction_at(w: &Workload, number: u32) -> Option<&Transaction>

@@ -7,7 +7,7 @@ ghost use Rattle.homeo_print.specs.Names.{object_names};
 ghost use Rattle.homeo_print.specs.Tables.{temp_text, split_name_text, sum_text, product_text, comparison_text, test_text, cond_text};
 ghost use Rattle.homeo_print.specs.inner.Walk.{expr_text_in, sign_text};
 
-use crate::append::{push_bytes, push_number, push_signed};
+use crate::append::{push_byte, push_bytes, push_number, push_signed};
 use crate::calls::name_of;
 use crate::objects::ObjectNames;
 use crate::phrases::Position;
@@ -47,7 +47,7 @@ pub(crate) fn push_split_name(
         }
         SplitName::Delta { object, site } => {
             push_bytes(out, objects.get(object as usize))?;
-            push_bytes(out, b"@")?;
+            push_byte(out, b'@')?;
             push_number(out, site as u64)
         }
     }

@@ -24,7 +24,10 @@ mod pieces;
 mod tables;
 mod treaties;
 
-pub use append::{push_bytes, push_heading, push_integer, push_number, push_numbers, push_signed};
+pub use append::{
+    push_byte, push_bytes, push_heading, push_integer, push_number, push_numbers, push_signed,
+    push_wide,
+};
 pub use calls::{name_of, print_call, push_call};
 pub use choices::{print_joint, print_too_many_choices};
 use homeo_syntax::{Memory, Workload};

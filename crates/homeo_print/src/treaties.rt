@@ -7,7 +7,7 @@ ghost use Rattle.homeo_plan.specs.PlanView.{plain_clause, plain_template, plain_
 ghost use Rattle.homeo_print.specs.Names.{numbers_text, object_names};
 ghost use Rattle.homeo_print.specs.Treaties.{delta_text, terms_text, clause_text, clauses_text, freeze_text, freezes_text, template_text};
 
-use crate::append::{push_bytes, push_heading, push_integer, push_number};
+use crate::append::{push_byte, push_bytes, push_heading, push_integer, push_number, push_wide};
 use crate::formulas::push_split_name;
 use crate::objects::ObjectNames;
 use homeo_plan::{Clause, Config, Delta, Template, Term};
@@ -32,8 +32,8 @@ fn push_bounds(out: &mut Vec<u8>, bounds: &[i128]) -> Result<(), Memory>
     ensures { OnOk result (out.new.items ≡ out.old.items ++ numbers_text bounds.now) }
 {
     for bound in bounds {
-        push_bytes(out, b" ")?;
-        push_integer(out, *bound)?;
+        push_byte(out, b' ')?;
+        push_wide(out, *bound)?;
     }
     Ok(())
 }
@@ -50,9 +50,9 @@ fn push_terms(
     ensures { OnOk result (out.new.items ≡ out.old.items ++ terms_text (plain_workload w.now) terms.now) }
 {
     for term in terms {
-        push_bytes(out, b" ")?;
-        push_integer(out, term.factor)?;
-        push_bytes(out, b"*")?;
+        push_byte(out, b' ')?;
+        push_wide(out, term.factor)?;
+        push_byte(out, b'*')?;
         push_delta(out, w, objects, term.delta)?;
     }
     Ok(())
@@ -73,12 +73,12 @@ fn push_clause(
 {
     push_number(out, number)?;
     push_bytes(out, b" slack ")?;
-    push_integer(out, clause.slack)?;
+    push_wide(out, clause.slack)?;
     push_bytes(out, b" bounds")?;
     push_bounds(out, bounds)?;
     push_bytes(out, b" form")?;
     push_terms(out, w, objects, clause.terms.as_slice())?;
-    push_bytes(out, b"\n")
+    push_byte(out, b'\n')
 }
 
 /// Appends clauses, numbered from 0, each with its bounds.
