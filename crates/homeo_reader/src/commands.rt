@@ -185,7 +185,7 @@ impl<'a> Parser<'a> {
         let mut items = Vec::new(alloc);
         append(&mut items, first)?;
         'more: while let Some(item) = self.next_command(alloc, version, room)? {
-            append(&mut items, item)?;
+            items.push(item)?;
         }
         Ok(items)
     }

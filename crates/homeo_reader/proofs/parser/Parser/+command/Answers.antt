@@ -9,7 +9,7 @@ use Rattle.homeo_reader.proofs.parser.Parser.+command.Goals as goal
 pub commands-more-preserved : goal.commands-more-preserved
 unfolding commands_read next_command_read
 commands-more-preserved t c =
-    goes_on c.args.room (each plain_command) (semi_command c.args.version) refl _ _ _ _ _ _ _ c.in_ok-item.ensures c.in-Some.is c.in_ok-append-2.ensures.items c.more.invariant
+    goes_on c.args.room (each plain_command) (semi_command c.args.version) refl _ _ _ _ _ _ _ c.in_ok-item.ensures c.in-Some.is c.in_ok-push.ensures.items c.more.invariant
 
 pub commands-more-smaller : goal.commands-more-smaller
 unfolding next_command_read
