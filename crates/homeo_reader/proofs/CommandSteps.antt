@@ -20,7 +20,7 @@ use Rattle.homeo_syntax.specs.Source as s
 use Rattle.homeo_syntax.specs.SourceView.{commands, plain_expr, plain_field}
 use Rattle.homeo_syntax.specs.Key.{definitions}
 use Rattle.homeo_reader.specs.inner.Commands.{if_read, foreach_read, insert_read, delete_read, update_read, abort_read, command_read, commands_read, next_command_read, next_command_do, block_read, block_do, setting_read, field_setting_rest, row_setting_rest, setting_by, setting_do, field_value_read, field_value_do, next_field_value_read, next_field_value_do, other_field_values_read, field_values_read, field_values_do, command_by, command_do}
-use Rattle.homeo_reader.specs.inner.Reading.{expr_read, cond_read, visit_read, mark_read, ident_read, on_marked}
+use Rattle.homeo_reader.specs.inner.Reading.{expr_read, cond_read, visit_read, mark_read, ident_read, if_marked, on_marked, with_front}
 use Rattle.homeo_reader.proofs.Bools.{if_true, and_split, and_join, not_true, not_false}
 use Rattle.homeo_reader.proofs.Flat.{read_then, reads, reads_part, flat_part, bind_same}
 use Rattle.homeo_reader.proofs.Words.{Known, Outcome, word_begins, empty_word}
@@ -273,6 +273,15 @@ begins_same p q (t ∷ r) = one (p t.kind) (q t.kind)
 abbrev pub semi_command : Version → Rule s.Command
 semi_command v = lead mark.Semicolon (call (Command v))
 
+in_front_of : (x : s.Command) (r : Reading (List s.Command)) (f : List s.Command × List Token → Reading s.Commands) → (r >>= λ c. f (x ∷ c.0, c.1)) ≡ (with_front (x ∷ []) r >>= f)
+in_front_of x (Ok c) f = refl
+in_front_of x (Err e) f = refl
+
+one_list : (v : Version) (room : ℕ) (r : List Token) → block_rest v room r ≡ (command_read v room r >>= λ b. with_front (b.0 ∷ []) (commands_read v room b.1) >>= λ c. mark_read mark.CloseBrace c.1 >>= λ d. Ok (commands c.0, d.1))
+unfolding block_rest
+one_list v room r =
+    bind_same (command_read v room r) _ _ (λ b. in_front_of b.0 (commands_read v room b.1) (λ c. mark_read mark.CloseBrace c.1 >>= λ d. Ok (commands c.0, d.1)))
+
 pub block_reads : (v : Version) (room : ℕ) (ts : List Token) → block_read v room ts ≡ block_do v room ts
 unfolding block_read block_do command_read commands_read read_then block_rest
 block_reads v room ts =
@@ -280,4 +289,5 @@ block_reads v room ts =
     ∙ bind_same (mark_read mark.OpenBrace ts) _ _ (λ a.
     ap (λ (b : Bool). if b then block_rest v room a.1 else (mark_read mark.CloseBrace a.1 >>= λ d. Ok (s.NoCommand, d.1)))
     (begins_same ((calls_at rule room).begins (Command v)) (λ k. begins (calls_at rule room) (many (semi_command v)) k) a.1)
-    ∙ block_inner v room a.1 (first_is ((calls_at rule room).begins (Command v)) a.1) refl (mark_read mark.CloseBrace a.1) refl)
+    ∙ block_inner v room a.1 (first_is ((calls_at rule room).begins (Command v)) a.1) refl (mark_read mark.CloseBrace a.1) refl
+    ∙ ap (λ r. if_marked mark.CloseBrace a.1 (λ r. Ok (s.NoCommand, r)) (if nat_lt 0 room then r else Err a.1)) (one_list v room a.1))

@@ -1,12 +1,12 @@
 //! Commands and blocks.
 
-ghost use Rattle.std.specs.Prelude.{◌≡◌, ◌<◌, option_map};
+ghost use Rattle.std.specs.Prelude.{◌≡◌, ◌<◌, [], ◌∷◌, option_map};
 ghost use Rattle.homeo_syntax.specs.SourceView.{plain_command};
-ghost use Rattle.homeo_reader.specs.inner.Reading.{Gives};
+ghost use Rattle.homeo_reader.specs.inner.Reading.{Gives, with_front};
 ghost use Rattle.homeo_reader.specs.inner.Commands.{command_views, block_view, abort_read, command_read, if_read, foreach_read, next_command_read, commands_read, block_read};
 
 use crate::conditions::Visit;
-use crate::parser::{Fault, Parser, append, list_of};
+use crate::parser::{Fault, Parser, append};
 use homeo_syntax::{Command, Kind, List, Mark, Version};
 use std::alloc::Global;
 
@@ -170,20 +170,22 @@ impl<'a> Parser<'a> {
         }
     }
 
-    /// The commands that go on with a list.
+    /// A command, and those that go on with its list.
     #[cycle(command)]
     fn commands(
         &mut self,
         alloc: Global,
         version: Version,
         room: u32,
+        first: Command,
     ) -> Result<Vec<Command>, Fault>
         requires { 0 < room }
-        ensures { Gives (λ v. command_views v.items) result self.new.rest.now (commands_read version room self.old.rest.now) }
+        ensures { Gives (λ v. command_views v.items) result self.new.rest.now (with_front (plain_command first ∷ []) (commands_read version room self.old.rest.now)) }
     {
         let mut items = Vec::new(alloc);
+        append(&mut items, first)?;
         'more: while let Some(item) = self.next_command(alloc, version, room)? {
-            append(&mut items, item)?;
+            items.push(item)?;
         }
         Ok(items)
     }
@@ -206,9 +208,10 @@ impl<'a> Parser<'a> {
         if room == 0 {
             return Err(Fault::Stuck);
         }
-        let first = self.boxed_command(alloc, version, room)?;
-        let others = self.commands(alloc, version, room)?;
+        let first = self.command(alloc, version, room)?;
+        let mut commands = self.commands(alloc, version, room, first)?;
         self.expect(Mark::CloseBrace)?;
-        list_of(Box::into_inner(first), others)
+        commands.shrink_to_fit();
+        Ok(List::from_vec(commands))
     }
 }

@@ -109,7 +109,7 @@ impl<'a> Parser<'a> {
     }
 }
 
-/// Appends an item. The first takes room for two: most lists are of this one and of one that was read before.
+/// Appends an item. The first takes room for two, which most lists are.
 pub(crate) fn append<T: Drop>(items: &mut Vec<T>, item: T) -> Result<(), Fault>
     ensures items { OnOk result (items.new.items ≡ items.old.items ++ item ∷ []) }
     ensures memory { IfErr result (λ e. e ≡ Fault.Memory) }

@@ -16,7 +16,7 @@ use Rattle.homeo_syntax.specs.Grammar.{call, many}
 use Rattle.homeo_syntax.specs.Rules as rules
 use Rattle.homeo_syntax.specs.Rules.{Command, rule, lead}
 use Rattle.homeo_reader.specs.inner.Engine.{Reading, ◌>>=◌, read, calls_at}
-use Rattle.homeo_reader.specs.inner.Reading.{mark_read, ident_read, if_marked, opt_read, expr_read, cond_read, visit_read}
+use Rattle.homeo_reader.specs.inner.Reading.{mark_read, ident_read, if_marked, opt_read, with_front, expr_read, cond_read, visit_read}
 
 abbrev pub command_views : List Command_ → List s.Command
 command_views cs = map plain_command cs
@@ -94,7 +94,7 @@ block_do v room ts =
     mark_read mark.OpenBrace ts >>= λ a.
     if_marked mark.CloseBrace a.1 (λ r. Ok (s.NoCommand, r))
     (if nat_lt 0 room then
-    (command_read v room a.1 >>= λ b. commands_read v room b.1 >>= λ c. mark_read mark.CloseBrace c.1 >>= λ d. Ok (commands (b.0 ∷ c.0), d.1)) else Err a.1)
+    (command_read v room a.1 >>= λ b. with_front (b.0 ∷ []) (commands_read v room b.1) >>= λ c. mark_read mark.CloseBrace c.1 >>= λ d. Ok (commands c.0, d.1)) else Err a.1)
 
 -- what follows `if`
 unfoldable pub if_read : Version → ℕ → List Token → Reading s.Command

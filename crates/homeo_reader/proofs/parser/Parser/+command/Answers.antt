@@ -9,7 +9,7 @@ use Rattle.homeo_reader.proofs.parser.Parser.+command.Goals as goal
 pub commands-more-preserved : goal.commands-more-preserved
 unfolding commands_read next_command_read
 commands-more-preserved t c =
-    goes_on c.args.room (each plain_command) (semi_command c.args.version) refl _ _ _ _ _ _ _ c.in_ok-item.ensures c.in-Some.is c.in_ok-append.ensures.items c.more.invariant
+    goes_on c.args.room (each plain_command) (semi_command c.args.version) refl _ _ _ _ _ _ _ c.in_ok-item.ensures c.in-Some.is c.in_ok-push.ensures.items c.more.invariant
 
 pub commands-more-smaller : goal.commands-more-smaller
 unfolding next_command_read
@@ -22,4 +22,4 @@ commands-returns t c = ends c.args.room (each plain_command) (semi_command c.arg
 pub commands-returns-in_err-item : goal.commands-returns-in_err-item
 unfolding commands_read next_command_read
 commands-returns-in_err-item t c =
-    fails c.args.room (each plain_command) (semi_command c.args.version) refl _ _ _ _ _ _ _ c.in_err-item.ensures c.from_residual.ensures.1 c.more.invariant
+    fails c.args.room (each plain_command) (semi_command c.args.version) refl _ _ _ _ _ _ _ c.in_err-item.ensures c.from_residual-in_err-item.ensures.1 c.more.invariant

@@ -1,4 +1,5 @@
-use Rattle.std.proofs.Common.{◌≡◌, ◌+◌, ◌*◌, length}
+use Rattle.std.proofs.Common.{◌≡◌, ◌+◌, ◌*◌, [], ◌∷◌, length}
+use Rattle.homeo_syntax.specs.SourceView.{plain_command}
 use Rattle.homeo_reader.specs.inner.Reading.{with_front}
 use Rattle.homeo_reader.specs.inner.Commands.{command_views, commands_read}
 use Rattle.homeo_reader.proofs.parser.Parser.+command.Given as goal
@@ -25,7 +26,7 @@ abbrev pub decreases-body_after_foreach : goal.decreases-body_after_foreach
 decreases-body_after_foreach l = 8 * l.room + 5
 
 abbrev pub invariant-commands-more : goal.invariant-commands-more
-invariant-commands-more l = with_front (command_views l.items.items) (commands_read l.version l.room l.self.rest.now) ≡ commands_read l.version l.room l.initial.self.rest.now
+invariant-commands-more l = with_front (command_views l.items.items) (commands_read l.version l.room l.self.rest.now) ≡ with_front (plain_command l.fn.first ∷ []) (commands_read l.version l.room l.initial.self.rest.now)
 
 abbrev pub decreases-commands-more : goal.decreases-commands-more
 decreases-commands-more l = length l.self.rest.now
