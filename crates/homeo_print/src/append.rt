@@ -1,6 +1,6 @@
 //! Appending bytes and numbers to a text.
 
-ghost use Rattle.std.specs.Prelude.{◌≡◌, ◌+◌, ◌/◌, ◌%◌, ◌<◌, [], ◌∷◌, ◌++◌, decimal, OnOk};
+ghost use Rattle.std.specs.Prelude.{◌≡◌, ◌+◌, ◌/◌, ◌%◌, ◌<◌, ◌≤◌, [], ◌∷◌, ◌++◌, vec_len, vec_capacity, decimal, OnOk};
 ghost use Rattle.std.specs.Fmt.{signed_decimal};
 ghost use Rattle.homeo_print.specs.Names.{heading, numbers_text};
 
@@ -43,47 +43,74 @@ pub fn push_byte(out: &mut Vec<u8>, byte: u8) -> Result<(), Memory>
     Ok(())
 }
 
-/// Appends the digit of a number below 10.
-fn push_digit(out: &mut Vec<u8>, n: u64) -> Result<(), Memory>
-    requires { n < 10 }
-    ensures { OnOk result (out.new.items ≡ out.old.items ++ (48 + n) ∷ []) }
+/// Appends the digit of a number below 10, for which there must be room.
+fn put_digit(out: &mut Vec<u8>, n: u64)
+    requires digit { n < 10 }
+    requires room { vec_len out.old + 1 ≤ vec_capacity out.old }
+    ensures items { out.new.items ≡ out.old.items ++ (48 + n) ∷ [] }
+    ensures len { vec_len out.new ≡ vec_len out.old + 1 }
+    ensures capacity { vec_capacity out.new ≡ vec_capacity out.old }
 {
-    push_byte(out, b'0' + n as u8)
+    out.push_reserved(b'0' + n as u8);
 }
 
-/// Appends the two digits of a number below 100, the first of which may be 0.
-fn push_pair(out: &mut Vec<u8>, n: u64) -> Result<(), Memory>
-    requires { n < 100 }
-    ensures { OnOk result (out.new.items ≡ out.old.items ++ (48 + n / 10) ∷ (48 + n % 10) ∷ []) }
+/// Appends the two digits of a number below 100, the first of which may be 0. There must be room for them.
+fn put_pair(out: &mut Vec<u8>, n: u64)
+    requires pair { n < 100 }
+    requires room { vec_len out.old + 2 ≤ vec_capacity out.old }
+    ensures items { out.new.items ≡ out.old.items ++ (48 + n / 10) ∷ (48 + n % 10) ∷ [] }
+    ensures len { vec_len out.new ≡ vec_len out.old + 2 }
+    ensures capacity { vec_capacity out.new ≡ vec_capacity out.old }
 {
-    push_digit(out, n / 10)?;
-    push_digit(out, n % 10)
+    put_digit(out, n / 10);
+    put_digit(out, n % 10);
 }
 
-/// Appends a number below 100 in decimal.
+/// Appends a number below 100 in decimal, for which there must be room.
 #[tactic(auto, using(crate::proofs::Digits::digits))]
-fn push_tens(out: &mut Vec<u8>, n: u64) -> Result<(), Memory>
-    requires { n < 100 }
-    ensures { OnOk result (out.new.items ≡ out.old.items ++ decimal n) }
+fn put_tens(out: &mut Vec<u8>, n: u64)
+    requires tens { n < 100 }
+    requires room { vec_len out.old + 2 ≤ vec_capacity out.old }
+    ensures items { out.new.items ≡ out.old.items ++ decimal n }
+    ensures len { vec_len out.new ≤ vec_len out.old + 2 }
+    ensures capacity { vec_capacity out.new ≡ vec_capacity out.old }
 {
     if n < 10 {
-        push_digit(out, n)
+        put_digit(out, n);
     } else {
-        push_pair(out, n)
+        put_pair(out, n);
     }
 }
 
-/// Appends a number below 10,000 in decimal.
+/// Appends a number below 10,000 in decimal, for which there must be room.
 #[tactic(auto, using(crate::proofs::Digits::digits))]
-fn push_thousands(out: &mut Vec<u8>, n: u64) -> Result<(), Memory>
-    requires { n < 10000 }
-    ensures { OnOk result (out.new.items ≡ out.old.items ++ decimal n) }
+fn put_thousands(out: &mut Vec<u8>, n: u64)
+    requires thousands { n < 10000 }
+    requires room { vec_len out.old + 4 ≤ vec_capacity out.old }
+    ensures items { out.new.items ≡ out.old.items ++ decimal n }
+    ensures len { vec_len out.new ≤ vec_len out.old + 4 }
+    ensures capacity { vec_capacity out.new ≡ vec_capacity out.old }
 {
     if n < 100 {
-        push_tens(out, n)
+        put_tens(out, n);
     } else {
-        push_tens(out, n / 100)?;
-        push_pair(out, n % 100)
+        put_tens(out, n / 100);
+        put_pair(out, n % 100);
+    }
+}
+
+/// Appends a number below 1,000,000 in decimal, for which there must be room.
+#[tactic(auto, using(crate::proofs::Digits::digits))]
+fn put_short(out: &mut Vec<u8>, n: u64)
+    requires short { n < 1000000 }
+    requires room { vec_len out.old + 6 ≤ vec_capacity out.old }
+    ensures items { out.new.items ≡ out.old.items ++ decimal n }
+{
+    if n < 10_000 {
+        put_thousands(out, n);
+    } else {
+        put_thousands(out, n / 100);
+        put_pair(out, n % 100);
     }
 }
 
@@ -91,17 +118,15 @@ fn push_thousands(out: &mut Vec<u8>, n: u64) -> Result<(), Memory>
 ///
 /// # Errors
 ///
-/// `Memory` when out of memory, and then some of the bytes may be appended.
-#[tactic(auto, using(crate::proofs::Digits::digits))]
+/// `Memory` when out of memory.
 pub fn push_number(out: &mut Vec<u8>, n: u64) -> Result<(), Memory>
     ensures { OnOk result (out.new.items ≡ out.old.items ++ decimal n) }
 {
     // Most numbers of a text are short, and such a one is put behind it without a buffer.
-    if n < 10_000 {
-        push_thousands(out, n)
-    } else if n < 1_000_000 {
-        push_thousands(out, n / 100)?;
-        push_pair(out, n % 100)
+    if n < 1_000_000 {
+        out.reserve(6)?;
+        put_short(out, n);
+        Ok(())
     } else {
         push_integer(out, n)
     }

@@ -11,7 +11,7 @@ ghost use Rattle.homeo_report.specs.Report.{client_text, made_text, entry_line};
 use homeo_context::argument_values;
 use homeo_history::Entry;
 use homeo_meaning::CallId;
-use homeo_print::{name_of, push_bytes, push_call, push_number, push_numbers};
+use homeo_print::{name_of, push_byte, push_bytes, push_call, push_number, push_numbers};
 use homeo_syntax::{Call, Client, Memory, Workload};
 use std::alloc::Global;
 
@@ -85,11 +85,11 @@ pub(crate) fn push_entry(out: &mut Vec<u8>, w: &Workload, entry: &Entry) -> Resu
         ≡ out.old.items ++ entry_line (plain_workload w.now) (plain_entry entry.now)) }
 {
     push_bytes(out, caller_of(w, entry.call))?;
-    push_bytes(out, b" ")?;
+    push_byte(out, b' ')?;
     push_number(out, entry.call.seq)?;
-    push_bytes(out, b" ")?;
+    push_byte(out, b' ')?;
     push_made(out, w, entry.call)?;
-    push_bytes(out, b":")?;
+    push_byte(out, b':')?;
     push_numbers(out, entry.prints.as_slice())?;
-    push_bytes(out, b"\n")
+    push_byte(out, b'\n')
 }
