@@ -10,10 +10,11 @@ ghost use Rattle.homeo_build.specs.Plan.{IsPlanOf};
 ghost use Rattle.homeo_commands.specs.Certified.{IsCertificateLine, IsUncertified};
 
 use crate::stop::Stop;
-use crate::treaty::first_plan;
 use homeo_build::Compiled;
 use homeo_build::compile::compile;
+use homeo_build::treaties::treaties;
 use homeo_cert::{CertError, certificate};
+use homeo_eval::initial;
 use homeo_meaning::Accepted;
 use homeo_plan::RoundPlan;
 use homeo_syntax::{Memory, Refusal};
@@ -43,6 +44,15 @@ fn first_certificate(alloc: Global, c: &Compiled) -> Result<Vec<u8>, Stop>
 {
     let plan = first_plan(alloc, c)?;
     certificate_line(alloc, c, &plan)
+}
+
+/// The plan of the round that begins at the initial database.
+fn first_plan(alloc: Global, c: &Compiled) -> Result<RoundPlan, Memory>
+    ensures config { IfOk result (λ p. plain_config p.config ≡ policy (plain_workload c.now) (initial (plain_workload c.now))) }
+    ensures plan { IfOk result (IsPlanOf (plain_workload c.now) (initial (plain_workload c.now))) }
+{
+    let base = initial(alloc, c.workload())?;
+    treaties(alloc, c, &base, None)
 }
 
 /// The certificate of the plan of that round, and a newline.

@@ -1,20 +1,18 @@
 //! The treaties at a workload's initial database, as a text.
 
-ghost use Rattle.std.specs.Prelude.{◌≡◌, length, IfOk};
+ghost use Rattle.std.specs.Prelude.{◌≡◌, IfOk};
 ghost use Rattle.homeo_syntax.specs.SourceView.{plain_workload};
-ghost use Rattle.homeo_meaning.specs.Initial.{initial};
-ghost use Rattle.homeo_plan.specs.PlanView.{plain_template, plain_config};
-ghost use Rattle.homeo_plan.specs.Planned.{template_at, policy};
-ghost use Rattle.homeo_build.specs.Plan.{IsPlanOf};
+ghost use Rattle.homeo_outline.specs.ObjectPlan.{template_in, config_in};
+ghost use Rattle.homeo_print.specs.Plans.{HasBounds};
 ghost use Rattle.homeo_print.specs.Treaties.{template_text, treaty_text};
 
 use homeo_build::Compiled;
 use homeo_build::compile::compile;
-use homeo_build::treaties::treaties;
+use homeo_build::treaties::plan_at;
 use homeo_eval::initial;
 use homeo_meaning::Accepted;
-use homeo_plan::RoundPlan;
-use homeo_print::{ObjectNames, print_template};
+use homeo_outline::ObjectPlan;
+use homeo_print::{ObjectNames, print_plan};
 use homeo_syntax::{Memory, Workload};
 use std::alloc::Global;
 
@@ -30,30 +28,19 @@ pub fn treaty(alloc: Global, w: Accepted) -> Result<Vec<u8>, Memory>
 fn first_treaty(alloc: Global, c: &Compiled) -> Result<Vec<u8>, Memory>
     ensures { IfOk result (λ bytes. bytes.items ≡ treaty_text (plain_workload c.now)) }
 {
-    let plan = first_plan(alloc, c)?;
+    let base = initial(alloc, c.workload())?;
+    let plan = plan_at(alloc, c, &base)?;
     plan_text(alloc, c.workload().workload(), &plan)
 }
 
-/// The plan of the round that begins at the initial database.
-pub(crate) fn first_plan(alloc: Global, c: &Compiled) -> Result<RoundPlan, Memory>
-    ensures template { IfOk result (λ p. plain_template p.template ≡
-        template_at (plain_workload c.now) (initial (plain_workload c.now))) }
-    ensures config { IfOk result (λ p. plain_config p.config ≡ policy (plain_workload c.now) (initial (plain_workload c.now))) }
-    ensures plan { IfOk result (IsPlanOf (plain_workload c.now) (initial (plain_workload c.now))) }
-    ensures bounds { IfOk result (λ p. length (plain_config p.config) ≡ length (plain_template p.template).clauses) }
-{
-    let base = initial(alloc, c.workload())?;
-    treaties(alloc, c, &base, None)
-}
-
-/// A plan's template with its configuration, as a text.
-fn plan_text(alloc: Global, w: &Workload, plan: &RoundPlan) -> Result<Vec<u8>, Memory>
-    requires bounds { length (plain_config plan.now.config) ≡ length (plain_template plan.now.template).clauses }
+/// The treaties of a plan, as a text.
+fn plan_text(alloc: Global, w: &Workload, plan: &ObjectPlan) -> Result<Vec<u8>, Memory>
+    requires bounds { HasBounds plan.now }
     ensures { IfOk result (λ bytes. bytes.items ≡
-        template_text (plain_workload w.now) (plain_template plan.now.template) (plain_config plan.now.config)) }
+        template_text (plain_workload w.now) (template_in plan.now) (config_in plan.now)) }
 {
     let objects = ObjectNames::of(alloc, w)?;
     let mut out = Vec::new(alloc);
-    print_template(&mut out, w, &objects, &plan.template, &plan.config)?;
+    print_plan(&mut out, w, &objects, plan)?;
     Ok(out)
 }

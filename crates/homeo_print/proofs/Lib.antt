@@ -3,6 +3,7 @@ pub mod Behind
 pub mod CallNames
 pub mod ChoiceLines
 pub mod Claims
+pub mod ClauseLines
 pub mod CommandSteps
 pub mod DeclarationSteps
 pub mod DeclarationsBack

@@ -4,6 +4,7 @@ pub mod Layout
 pub mod Names
 pub mod Objects
 pub mod Offsets
+pub mod Plans
 pub mod Print
 pub mod Printed
 pub mod ReadingBack

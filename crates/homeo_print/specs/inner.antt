@@ -1,3 +1,4 @@
 pub mod Choices
+pub mod Clauses
 pub mod Pieces
 pub mod Walk

@@ -34,7 +34,7 @@ use homeo_syntax::{Memory, Workload};
 pub use objects::ObjectNames;
 use std::alloc::Global;
 pub use tables::{print_row, print_table};
-pub use treaties::print_template;
+pub use treaties::print_plan;
 
 /// The text of a workload: its declarations in order, each in a line of its own. Where the workload came from a text,
 /// this text reads as it, apart from offsets. A name that isn't among the workload's names has no bytes.

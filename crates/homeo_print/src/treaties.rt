@@ -1,17 +1,26 @@
 //! The text of treaties.
 #![tactic(auto, using(crate::proofs::TreatySteps::treaty_steps))]
 
-ghost use Rattle.std.specs.Prelude.{◌≡◌, ◌++◌, map, length, OnOk};
+ghost use Rattle.std.specs.Prelude.{◌≡◌, ◌<◌, ◌≤ℤ◌, ◌++◌, pos, replicate, length, OnOk};
 ghost use Rattle.homeo_syntax.specs.SourceView.{plain_workload};
-ghost use Rattle.homeo_plan.specs.PlanView.{plain_clause, plain_template, plain_config};
+ghost use Rattle.homeo_meaning.specs.Small.{IsSmall};
+ghost use Rattle.homeo_plan.specs.Config.{split};
+ghost use Rattle.homeo_plan.specs.Limit.{form_limit};
+ghost use Rattle.homeo_follow.specs.Expanded.{terms_from, expanded_terms};
+ghost use Rattle.homeo_outline.specs.ObjectPlan.{template_in, config_in};
 ghost use Rattle.homeo_print.specs.Names.{numbers_text, object_names};
+ghost use Rattle.homeo_print.specs.Plans.{HasBounds};
 ghost use Rattle.homeo_print.specs.Treaties.{delta_text, terms_text, clause_text, clauses_text, freeze_text, freezes_text, template_text};
+ghost use Rattle.homeo_print.specs.inner.Clauses.{slack_in, clause_in, bounds_in};
 
 use crate::append::{push_byte, push_bytes, push_heading, push_integer, push_number, push_wide};
 use crate::formulas::push_split_name;
 use crate::objects::ObjectNames;
-use homeo_plan::{Clause, Config, Delta, Template, Term};
-use homeo_syntax::{List, Memory, SplitName, Workload};
+use homeo_config::even_bound;
+use homeo_meaning::padded::item_or;
+use homeo_outline::ObjectPlan;
+use homeo_plan::{Delta, Term};
+use homeo_syntax::{Memory, SplitName, Workload};
 
 fn push_delta(
     out: &mut Vec<u8>,
@@ -38,72 +47,134 @@ fn push_bounds(out: &mut Vec<u8>, bounds: &[i128]) -> Result<(), Memory>
     Ok(())
 }
 
-/// Appends terms, each behind a space.
+/// Appends the bounds of so many sites among which a slack is split evenly, each behind a space.
+fn push_even_bounds(out: &mut Vec<u8>, slack: i128, sites: u32) -> Result<(), Memory>
+    requires not_negative { pos 0 ≤ℤ slack }
+    requires small { IsSmall form_limit slack }
+    ensures { OnOk result (out.new.items ≡ out.old.items ++ numbers_text (split (replicate sites 1) slack)) }
+{
+    for site in 0..sites {
+        push_byte(out, b' ')?;
+        push_wide(out, even_bound(slack, sites, site))?;
+    }
+    Ok(())
+}
+
+/// The slack of the clause of a number.
 #[tactic(auto, unfolding(crate::specs::Key::definitions))]
+fn slack_in(plan: &ObjectPlan, clause: usize) -> i128
+    ensures { result ≡ slack_in plan.now clause }
+{
+    item_or(plan.slacks.as_slice(), clause, 0)
+}
+
+/// Appends the bounds of the clause of a number, each behind a space.
+fn push_bounds_in(out: &mut Vec<u8>, plan: &ObjectPlan, clause: usize) -> Result<(), Memory>
+    requires bounds { HasBounds plan.now }
+    requires clause { clause < length plan.now.outline.value.terms }
+    ensures { OnOk result (out.new.items ≡ out.old.items ++ numbers_text (bounds_in plan.now clause)) }
+{
+    match &plan.bounds {
+        None => push_even_bounds(out, slack_in(plan, clause), plan.outline.sites()),
+        Some(config) => push_bounds(out, config.bounds.as_slice()[clause].as_slice()),
+    }
+}
+
+/// Appends a term over a whole object, as it stands for the object's deltas at so many sites: each behind a space.
+fn push_term(
+    out: &mut Vec<u8>,
+    w: &Workload,
+    objects: &ObjectNames,
+    term: Term,
+    sites: u32,
+) -> Result<(), Memory>
+    requires named { objects.now ≡ object_names (plain_workload w.now) }
+    ensures { OnOk result (out.new.items
+        ≡ out.old.items ++ terms_text (plain_workload w.now) (terms_from 0 sites term.delta.object term.factor)) }
+{
+    let object = term.delta.object;
+    for site in 0..sites {
+        push_byte(out, b' ')?;
+        push_wide(out, term.factor)?;
+        push_byte(out, b'*')?;
+        push_delta(out, w, objects, Delta { object, site })?;
+    }
+    Ok(())
+}
+
+/// Appends terms over whole objects, as they stand for the deltas at so many sites.
 fn push_terms(
     out: &mut Vec<u8>,
     w: &Workload,
     objects: &ObjectNames,
     terms: &[Term],
+    sites: u32,
 ) -> Result<(), Memory>
     requires named { objects.now ≡ object_names (plain_workload w.now) }
-    ensures { OnOk result (out.new.items ≡ out.old.items ++ terms_text (plain_workload w.now) terms.now) }
+    ensures { OnOk result (out.new.items
+        ≡ out.old.items ++ terms_text (plain_workload w.now) (expanded_terms sites terms.now)) }
 {
     for term in terms {
-        push_byte(out, b' ')?;
-        push_wide(out, term.factor)?;
-        push_byte(out, b'*')?;
-        push_delta(out, w, objects, term.delta)?;
+        push_term(out, w, objects, *term, sites)?;
     }
     Ok(())
 }
 
-/// Appends the line of a clause with its bounds.
+/// Appends the terms of the clause of a number.
+fn push_terms_in(
+    out: &mut Vec<u8>,
+    w: &Workload,
+    objects: &ObjectNames,
+    plan: &ObjectPlan,
+    clause: usize,
+) -> Result<(), Memory>
+    requires named { objects.now ≡ object_names (plain_workload w.now) }
+    requires clause { clause < length plan.now.outline.value.terms }
+    ensures { OnOk result (out.new.items
+        ≡ out.old.items ++ terms_text (plain_workload w.now) (clause_in plan.now clause).terms) }
+{
+    let terms = plan.outline.terms()[clause].as_slice();
+    push_terms(out, w, objects, terms, plan.outline.sites())
+}
+
+/// Appends the line of the clause of a number, with its bounds.
 fn push_clause(
     out: &mut Vec<u8>,
     w: &Workload,
     objects: &ObjectNames,
-    number: u64,
-    clause: &Clause,
-    bounds: &[i128],
+    plan: &ObjectPlan,
+    clause: usize,
 ) -> Result<(), Memory>
     requires named { objects.now ≡ object_names (plain_workload w.now) }
-    ensures { OnOk result (out.new.items
-        ≡ out.old.items ++ clause_text (plain_workload w.now) number (plain_clause clause.now) bounds.now) }
+    requires bounds { HasBounds plan.now }
+    requires clause { clause < length plan.now.outline.value.terms }
+    ensures { OnOk result (out.new.items ≡ out.old.items
+        ++ clause_text (plain_workload w.now) clause (clause_in plan.now clause) (bounds_in plan.now clause)) }
 {
-    push_number(out, number)?;
+    push_number(out, clause as u64)?;
     push_bytes(out, b" slack ")?;
-    push_wide(out, clause.slack)?;
+    push_wide(out, slack_in(plan, clause))?;
     push_bytes(out, b" bounds")?;
-    push_bounds(out, bounds)?;
+    push_bounds_in(out, plan, clause)?;
     push_bytes(out, b" form")?;
-    push_terms(out, w, objects, clause.terms.as_slice())?;
+    push_terms_in(out, w, objects, plan, clause)?;
     push_byte(out, b'\n')
 }
 
-/// Appends clauses, numbered from 0, each with its bounds.
+/// Appends the clauses of a plan, numbered from 0, each with its bounds.
 fn push_clauses(
     out: &mut Vec<u8>,
     w: &Workload,
     objects: &ObjectNames,
-    clauses: &[Clause],
-    config: &Config,
+    plan: &ObjectPlan,
 ) -> Result<(), Memory>
     requires named { objects.now ≡ object_names (plain_workload w.now) }
-    requires bounds { length config.now.bounds.items ≡ length clauses.now }
+    requires bounds { HasBounds plan.now }
     ensures { OnOk result (out.new.items ≡ out.old.items
-        ++ clauses_text (plain_workload w.now) (map plain_clause clauses.now) (plain_config config.now)) }
+        ++ clauses_text (plain_workload w.now) (template_in plan.now).clauses (config_in plan.now)) }
 {
-    let bounds = config.bounds.as_slice();
-    for (number, clause) in clauses.iter().enumerate() {
-        push_clause(
-            out,
-            w,
-            objects,
-            number as u64,
-            clause,
-            bounds[number].as_slice(),
-        )?;
+    for clause in 0..plan.outline.terms().len() {
+        push_clause(out, w, objects, plan, clause)?;
     }
     Ok(())
 }
@@ -142,29 +213,30 @@ fn push_freezes(
     Ok(())
 }
 
-/// Appends the treaties of a template with a configuration: a line with how many clauses there are and a line for each,
-/// with its number, its slack, the bound of each site and its terms, and then a line with how many freezes there are and a
-/// line for each, with its number and its delta. The names are those of the workload's objects.
+/// Appends the treaties of a plan: a line with how many clauses there are and a line for each, with its number, its slack, the bound
+/// of each site and its terms, over the deltas of the sites, and then a line with how many freezes there are and a line for each, with
+/// its number and its delta. The names are those of the workload's objects. Beside the text it takes no memory.
+///
+/// Each slack must be one that can be split, and bounds that are given must be as many as the clauses.
 ///
 /// # Errors
 ///
 /// `Memory` when out of memory, and then some of the bytes may be appended.
-pub fn print_template(
+pub fn print_plan(
     out: &mut Vec<u8>,
     w: &Workload,
     objects: &ObjectNames,
-    t: &Template,
-    c: &Config,
+    plan: &ObjectPlan,
 ) -> Result<(), Memory>
     requires named { objects.now ≡ object_names (plain_workload w.now) }
-    requires bounds { length (plain_config c.now) ≡ length (plain_template t.now).clauses }
+    requires bounds { HasBounds plan.now }
     ensures text { OnOk result (out.new.items ≡ out.old.items
-        ++ template_text (plain_workload w.now) (plain_template t.now) (plain_config c.now)) }
+        ++ template_text (plain_workload w.now) (template_in plan.now) (config_in plan.now)) }
 {
-    let clauses = t.clauses.as_slice();
-    let freezes = t.freezes.as_slice();
-    push_heading(out, b"clauses ", clauses.len() as u64)?;
-    push_clauses(out, w, objects, clauses, c)?;
+    let clauses = plan.outline.terms().len();
+    let freezes = plan.outline.freezes();
+    push_heading(out, b"clauses ", clauses as u64)?;
+    push_clauses(out, w, objects, plan)?;
     push_heading(out, b"freezes ", freezes.len() as u64)?;
-    push_freezes(out, w, objects, clauses.len(), freezes)
+    push_freezes(out, w, objects, clauses, freezes)
 }

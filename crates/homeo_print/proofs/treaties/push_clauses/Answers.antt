@@ -1,22 +1,38 @@
-use Rattle.std.proofs.Common.{◌++◌, List, ℕ, map, take, get_or, append_assoc, sym, ap, ◌∙◌}
+-- One clause more.
+use Rattle.std.proofs.Common.{append_assoc, append-nil, ◌<◌, ◌≤◌, ◌++◌, List, ℕ, length, sym, ap, subst, ◌∙◌}
+use Rattle.std.proofs.lemmas.List.{length-map}
+use Rattle.homeo_syntax.specs.Listed.{Listed}
 use Rattle.homeo_syntax.specs.SourceView.{plain_workload}
-use Rattle.homeo_plan.specs.PlanView.{plain_clause}
+use Rattle.homeo_plan.specs.declared.forms.Term.{Term}
+use Rattle.homeo_outline.specs.Outlined.{Outlined}
 use Rattle.homeo_print.specs.Treaties.{clause_text, clauses_text}
-use Rattle.homeo_print.proofs.TreatySteps.{lists, clauses_more}
+use Rattle.homeo_print.specs.inner.Clauses.{clause_in, bounds_in, first_clauses, first_bounds}
+use Rattle.homeo_print.proofs.ClauseLines.{no_line, line_more, all_lines}
 use Rattle.homeo_print.proofs.treaties.push_clauses.Goals as goal
 
-pub loop-number-preserved : goal.loop-number-preserved
-loop-number-preserved c =
+pub loop-clause-init : goal.loop-clause-init
+loop-clause-init c =
+    let out = c.args.out.now.items in
+    sym (append-nil out) ∙ ap (λ l. out ++ l) (sym (no_line c.args.plan.now c.requires.bounds (plain_workload c.args.w.now)))
+
+pub loop-clause-preserved : goal.loop-clause-preserved
+loop-clause-preserved c =
     let w = plain_workload c.args.w.now in
-    let i = c.loop-number.number in
-    let clauses = c.args.clauses.now in
-    let all = c.args.config.now.bounds.items in
-    let clause = c.index-clauses-number.result in
-    let bounds = c.index-bounds-number.result in
-    let old = c.args.out.now.items in
-    let before : List ℕ = clauses_text w (map plain_clause (take i clauses)) (lists (take i all)) in
-    let line : List ℕ = clause_text w i (plain_clause clause) bounds.items in
-    c.in_ok-push_clause.ensures
-    ∙ ap (λ l. c.loop-number.out.items ++ clause_text w i (plain_clause clause) l) c.as_slice.ensures
-    ∙ ap (λ l. l ++ line) c.loop-number.invariant ∙ append_assoc old before line
-    ∙ ap (λ l. old ++ l) (sym (clauses_more w clauses all i clause bounds c.requires.bounds c.loop-number-test.true c.index-clauses-number.is (c.index-bounds-number.is ∙ ap (λ l. get_or l i bounds) c.as_slice-bounds.ensures)))
+    let p = c.args.plan.now in
+    let n = c.loop-clause.clause in
+    let out = c.args.out.now.items in
+    let before : List ℕ = clauses_text w (first_clauses p n) (first_bounds p n) in
+    let line : List ℕ = clause_text w n (clause_in p n) (bounds_in p n) in
+    let all = c.terms-clause-end.ensures ∙ ap (λ (o : Outlined). o.terms) c.deref.ensures in
+    let lt = subst (λ m. n < m) (sym (length-map c.terms-clause-end.result.now (λ (l : Listed Term). l.items)) ∙ ap length all) c.loop-clause-test.true in
+    c.in_ok-push_clause.ensures ∙ ap (λ l. l ++ line) c.loop-clause.invariant ∙ append_assoc out before line
+    ∙ ap (λ l. out ++ l) (sym (line_more p c.requires.bounds w n lt))
+
+pub returns : goal.returns
+returns c =
+    let w = plain_workload c.args.w.now in
+    let p = c.args.plan.now in
+    let n = c.loop-clause.clause in
+    let all = c.terms-clause-end.ensures ∙ ap (λ (o : Outlined). o.terms) c.deref.ensures in
+    let le = subst (λ m. m ≤ n) (sym (length-map c.terms-clause-end.result.now (λ (l : Listed Term). l.items)) ∙ ap length all) c.loop-clause-test.false in
+    c.loop-clause.invariant ∙ ap (λ l. c.args.out.now.items ++ l) (all_lines p c.requires.bounds w n le)
