@@ -10,7 +10,7 @@ use Rattle.homeo_plan.specs.Limit.{form_limit}
 use Rattle.homeo_plan.specs.Planned.{shares_of, template_at, policy}
 use Rattle.homeo_plan.specs.Template.{Clause}
 use Rattle.homeo_outline.specs.Key.{definitions as outline_definitions}
-use Rattle.homeo_outline.specs.ObjectPlan.{template_in, template_with, config_in}
+use Rattle.homeo_outline.specs.ObjectPlan.{template_with, config_in}
 use Rattle.homeo_outline.specs.declared.plan.ObjectPlan.{ObjectPlan}
 use Rattle.homeo_build.specs.Plan.{IsObjectPlan}
 use Rattle.homeo_build.proofs.PlanParts.{has_object_slack, small_object_slacks}
@@ -27,7 +27,7 @@ unfolding plan_definitions
 policy_count w base = bounds_count (shares_of w) (template_at w base).clauses
 
 pub has_bounds : (w : Workload) (base : List ℤ) (p : ObjectPlan) → IsAccepted w → IsObjectPlan w base p → config_in p ≡ policy w base → HasBounds p
-unfolding outline_definitions
+unfolding outline_definitions plan_definitions
 has_bounds w base p accepted plan config =
     let k = p.outline.value.sites in
     let t = template_with p.outline.value p.slacks.items in

@@ -2,6 +2,7 @@ pub mod AtomExample
 pub mod CallExample
 pub mod Example
 pub mod Lists
+pub mod LocalExample
 pub mod ObjectExample
 pub mod ResidualExample
 pub mod SlackExample

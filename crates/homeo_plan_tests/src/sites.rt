@@ -7,6 +7,7 @@ ghost use Rattle.homeo_plan_tests.specs.inner.SplitExample.{next, raise, IsStart
 use crate::object::pair;
 use crate::same::same_items;
 use homeo_delta::{fold, transform};
+use homeo_local::local_step;
 use homeo_meaning::Database;
 use homeo_split::{Split, eval_l};
 use homeo_syntax::{LCommand, LExpr, List, SplitName};
@@ -75,4 +76,19 @@ fn a_site_raises_an_object_of_the_fold(rt: HostRuntime) {
     let after = fold(alloc, &split).expect(&rt, "memory");
     same_items(&rt, after.as_slice(), [11, 10].as_slice());
     drop(split);
+}
+
+/// Base 5 and delta 2 are 7: raised, the object is printed as 8, and its delta is 3.
+#[test]
+fn a_site_runs_a_call_on_base_and_own_deltas(rt: HostRuntime) {
+    let alloc = rt.alloc();
+    let command = raise(&rt, alloc);
+    let base = values(&rt, alloc, 5, 7);
+    let deltas = values(&rt, alloc, 2, -1);
+    let step = local_step(alloc, &command, base.as_slice(), deltas.as_slice()).expect(
+        &rt, "memory",
+    );
+    same_items(&rt, step.prints.as_slice(), [8].as_slice());
+    same_items(&rt, step.deltas.as_slice(), [3, -1].as_slice());
+    same_items(&rt, step.written.as_slice(), [0].as_slice());
 }
