@@ -1,3 +1,2 @@
 pub mod inner
-pub mod Key
 pub mod OwnValues

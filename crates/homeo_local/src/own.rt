@@ -30,7 +30,7 @@ impl Reads for Own<'_> {
 
     ghost values = { λ o. plain_own o };
 
-    #[tactic(auto, unfolding(crate::specs::Key::definitions))]
+    #[tactic(auto, unfolding(crate::specs::inner::Key::definitions))]
     fn temp(&self, t: Temp) -> i64 {
         match t {
             Temp::Named(n) => item_or(self.named.as_slice(), n as usize, 0),
@@ -38,7 +38,7 @@ impl Reads for Own<'_> {
         }
     }
 
-    #[tactic(auto, unfolding(crate::specs::Key::definitions, homeo_meaning::specs::Key::definitions))]
+    #[tactic(auto, unfolding(crate::specs::inner::Key::definitions, homeo_meaning::specs::Key::definitions))]
     fn read(&self, x: SplitName) -> i64 {
         match x {
             SplitName::Whole(object) => self.object(object as usize),

@@ -7,7 +7,7 @@ use Rattle.homeo_syntax.specs.Low.{Skip}
 use Rattle.homeo_meaning.specs.LowMeaning.{State, Run, TempAt, BaseAt, DeltaAt, after_prints, exec}
 use Rattle.homeo_meaning.specs.Serial.{values_of}
 use Rattle.homeo_local.specs.declared.own.Own.{Own}
-use Rattle.homeo_local.specs.Key.{definitions}
+use Rattle.homeo_local.specs.inner.Key.{definitions}
 use Rattle.homeo_local.specs.OwnValues.{own_values}
 
 -- an object is its base and its delta, as i64 adds them; 0 wherever a list ends, and at deltas of sites

@@ -12,7 +12,7 @@ use Rattle.homeo_meaning.specs.LowMeaning.{BaseAt, exec}
 use Rattle.homeo_meaning.specs.Serial.{values_of}
 use Rattle.homeo_split.specs.CanExec.{run_limit, can_exec}
 use Rattle.homeo_split.proofs.CommandSteps.{run_Skip, left_state, left_prints}
-use Rattle.homeo_local.specs.Key.{definitions}
+use Rattle.homeo_local.specs.inner.Key.{definitions}
 use Rattle.homeo_local.proofs.Owns.{begins, left_delta, kept}
 use Rattle.homeo_local.proofs.step.local_step.Goals as goal
 

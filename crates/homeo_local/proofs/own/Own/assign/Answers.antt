@@ -3,7 +3,7 @@ use Rattle.std.proofs.Common.{◌==◌, cond, get_or, pos, sym, ap, ◌∙◌, w
 use Rattle.std.proofs.lemmas.Int.{to_z-of_z}
 use Rattle.std.proofs.lemmas.Result.{on_ok_weaker}
 use Rattle.homeo_meaning.specs.LowMeaning.{TempAt, put}
-use Rattle.homeo_local.specs.Key.{definitions}
+use Rattle.homeo_local.specs.inner.Key.{definitions}
 use Rattle.homeo_local.specs.inner.Own.{plain_own}
 use Rattle.homeo_local.proofs.Owns.{set_named, set_fresh}
 use Rattle.homeo_local.proofs.own.Own.assign.Goals as goal

@@ -3,7 +3,7 @@ use Rattle.std.proofs.Common.{rules, ◌∙◌, ap, ◌+ℤ◌, SFits, w64}
 use Rattle.std.specs.Int.{int_wrap}
 use Rattle.std.proofs.lemmas.Int.{wrapping_add_is}
 use Rattle.homeo_meaning.specs.Serial.{values_of}
-use Rattle.homeo_local.specs.Key.{definitions}
+use Rattle.homeo_local.specs.inner.Key.{definitions}
 use Rattle.homeo_local.proofs.own.Own.object.Goals as goal
 
 pub returns : goal.returns

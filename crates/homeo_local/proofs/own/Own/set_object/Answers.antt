@@ -2,7 +2,7 @@
 use Rattle.std.proofs.Common.{rules, ◌∙◌, sym, ap, subst, set, ◌-ℤ◌, FitsSigned, SFits, w64}
 use Rattle.std.specs.Int.{int_wrap}
 use Rattle.std.proofs.lemmas.Int.{wrapping_sub_is, SFits-int_wrap}
-use Rattle.homeo_local.specs.Key.{definitions}
+use Rattle.homeo_local.specs.inner.Key.{definitions}
 use Rattle.homeo_local.specs.inner.Own.{own_with}
 use Rattle.homeo_local.proofs.Owns.{set_object, stays_or_fits}
 use Rattle.homeo_local.proofs.own.Own.set_object.Goals as goal
