@@ -1,9 +1,9 @@
 """Runs a command in a process of its own, and measures it: what bench/measure and bench/hostile share.
 
 `measured` gives a `Measured`: the status (negative where a signal ended it, None where it took too long), the seconds from start to
-end, the seconds of processor time of all its threads, the peak of its memory in megabytes (some 10 of which are the launcher's, of
-which it is a copy at first), and what it said on standard error. Each run has a timeout, and may have no more address space than
-`MOST_MEMORY`, so that it can't exhaust the machine.
+end, the seconds of processor time of all its threads, the peak of its memory in megabytes (where GNU time isn't there, at least the 10
+or so of the launcher, of which it is a copy at first), and what it said on standard error. Each run has a timeout, and may have no
+more address space than `MOST_MEMORY`, so that it can't exhaust the machine.
 """
 import collections
 import json
@@ -16,27 +16,35 @@ Measured = collections.namedtuple("Measured", "status seconds processor megabyte
 # Bytes of address space, the seconds that a run may take, and those of one that is not repeated.
 MOST_MEMORY, TIMEOUT, LONG = 6 * 2**30, 120, 5
 
+# It tells the peak of what it starts, which begins as a copy of it, and so of little.
+TELLER = "/usr/bin/time"
 LAUNCHER = """
-import json, resource, subprocess, sys, time
-given, taken, timeout, memory = sys.argv[1], sys.argv[2], float(sys.argv[3]), int(sys.argv[4])
+import json, os, resource, signal, subprocess, sys, tempfile, time
+given, taken, timeout, memory, teller = sys.argv[1], sys.argv[2], float(sys.argv[3]), int(sys.argv[4]), sys.argv[5]
 limit = lambda: resource.setrlimit(resource.RLIMIT_AS, (memory, memory))
-start = time.perf_counter()
-with open(given, "rb") as source, open(taken, "wb") as out:
-    child = subprocess.Popen(sys.argv[5:], stdin=source, stdout=out, preexec_fn=limit)
+with open(given, "rb") as source, open(taken, "wb") as out, tempfile.NamedTemporaryFile("r") as told:
+    words = [teller, "-q", "-f", "%M", "-o", told.name] if os.path.exists(teller) else []
+    start = time.perf_counter()
+    child = subprocess.Popen(words + sys.argv[6:], stdin=source, stdout=out, preexec_fn=limit, start_new_session=True)
     try:
         status = child.wait(timeout)
     except subprocess.TimeoutExpired:
-        child.kill()
+        os.killpg(child.pid, signal.SIGKILL)
         child.wait()
         status = None
+    seconds = time.perf_counter() - start
+    peak = told.read().split()
 used = resource.getrusage(resource.RUSAGE_CHILDREN)
-print(json.dumps([status, time.perf_counter() - start, used.ru_utime + used.ru_stime, used.ru_maxrss / 1024]))
+if words and status is not None and status > 128:
+    status = 128 - status
+kilobytes = int(peak[-1]) if peak else used.ru_maxrss
+print(json.dumps([status, seconds, used.ru_utime + used.ru_stime, kilobytes / 1024]))
 """
 
 
 def measured(command, given, taken="/dev/null", timeout=TIMEOUT):
     """Runs the command with the file `given` as its standard input, and the file `taken` as its output."""
-    words = [sys.executable, "-S", "-E", "-c", LAUNCHER, str(given), str(taken), str(timeout), str(MOST_MEMORY), *map(str, command)]
+    words = [sys.executable, "-S", "-E", "-c", LAUNCHER, str(given), str(taken), str(timeout), str(MOST_MEMORY), TELLER, *map(str, command)]
     run = subprocess.run(words, capture_output=True, text=True)
     if run.returncode:
         raise OSError(f"the launcher failed: {run.stderr}")
