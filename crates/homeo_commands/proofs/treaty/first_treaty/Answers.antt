@@ -17,8 +17,8 @@ pub plan_text-requires : goal.plan_text-requires
 plan_text-requires c =
     let w = plain_workload c.args.c.now in
     let accepted : IsAccepted w = subst (λ (v : Workload). IsAccepted (plain_workload v)) c.workload-2.ensures c.workload-3.ensures.accepted in
-    subst HasBounds (sym c.deref.ensures)
-    (has_bounds w c.in_ok-base.base.items c.in_ok-plan.plan.value accepted c.in_ok-plan.ensures.plan c.in_ok-plan.ensures.policy)
+    let bounds = has_bounds w c.in_ok-base.base.items c.in_ok-plan.plan.value accepted c.in_ok-plan.ensures.plan c.in_ok-plan.ensures.policy in
+    record { bounds = subst HasBounds (sym c.deref.ensures) bounds }
 
 pub returns : goal.returns
 unfolding definitions
