@@ -44,7 +44,7 @@ pub fn first_bad_byte(text: &[u8]) -> Option<usize>
 }
 
 /// The tokens of a text with each name as its index among the distinct names, which are in first-seen order, and the
-/// text's version, which its first two tokens tell. It takes time in proportion to the text's length.
+/// text's version, which its first two tokens tell. It takes time in proportion to the text's length, which must be below 2^32 bytes.
 ///
 /// # Errors
 ///
