@@ -13,6 +13,7 @@ use Rattle.homeo_plan.specs.Template.{PlannedCall, base_row}
 use Rattle.homeo_plan.specs.Planned.{sites_of, planned, template_at}
 use Rattle.homeo_plan.specs.PlanView.{plain_residual, plain_template, plain_config}
 use Rattle.homeo_follow.specs.Brought.{brought, plain_part}
+use Rattle.homeo_outline.specs.Leaders.{Lead}
 use Rattle.homeo_outline.specs.ObjectPlan.{template_in}
 use Rattle.homeo_outline.specs.declared.plan.ObjectPlan.{ObjectPlan}
 use Rattle.homeo_follow.specs.declared.part.PlanPart.{PlanPart}
@@ -50,10 +51,12 @@ abbrev pub AreParts : {Z : Type 0} → s.Workload → List ℤ → List (Arc Pla
 unfolding definitions
 AreParts w values parts = map (λ p. plain_part p.value) parts ≡ map (brought (values_of values)) (call_forms w)
 
--- a workload's plan over whole objects at a base of these values: over the deltas of the sites its template is the one there
+-- a workload's plan over whole objects at a base of these values: over the deltas of the sites its template is the one there, and its
+-- leaders lead its clauses
 pub record IsObjectPlan (w : s.Workload) (values : List ℤ) (p : ObjectPlan) : Type 0 where
   pub within : IsWithin (schema_of w) values
   pub base : p.base.items ≡ values
   pub parts : AreParts w values p.parts.items
   pub sites : p.outline.value.sites ≡ sites_of w
   pub template : template_in p ≡ template_at w values
+  pub led : Lead p.outline.value.terms p.slacks.items p.leaders.value

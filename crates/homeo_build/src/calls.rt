@@ -15,7 +15,7 @@ use crate::compiled::Compiled;
 use crate::frozen::FrozenObjects;
 use homeo_follow::PlanPart;
 use homeo_meaning::Database;
-use homeo_outline::{Outline, outlined};
+use homeo_outline::{Leaders, Outline, outlined};
 use homeo_plan::Template;
 use homeo_syntax::{List, Memory};
 use homeo_template::object_clauses;
@@ -54,11 +54,13 @@ pub(crate) fn object_template(
     })
 }
 
-/// A template over whole objects, as an outline that plans share and the slacks of its clauses.
+/// A template over whole objects, as an outline that plans share, the slacks of its clauses, and which of these lead others, which plans
+/// share too.
 #[derive(Drop)]
 pub(crate) struct SharedTemplate {
     pub(crate) outline: Arc<Outline>,
     pub(crate) slacks: List<i128>,
+    pub(crate) leaders: Arc<Leaders>,
 }
 
 /// The template of what the ground calls ask and need at a base, with an outline of its own.
@@ -77,6 +79,10 @@ pub(crate) fn template_of_parts(
 {
     let template = object_template(alloc, c, base, parts, sites)?;
     let (outline, slacks) = outlined(alloc, template)?;
-    let outline = Arc::new(alloc, outline)?;
-    Ok(SharedTemplate { outline, slacks })
+    let leaders = Leaders::of(alloc, &outline, slacks.as_slice())?;
+    Ok(SharedTemplate {
+        outline: Arc::new(alloc, outline)?,
+        slacks,
+        leaders: Arc::new(alloc, leaders)?,
+    })
 }

@@ -68,5 +68,10 @@ fn rebased_outline(
         return Ok(None);
     };
     let outline = Arc::try_clone(&last.outline)?;
-    Ok(Some(SharedTemplate { outline, slacks }))
+    let leaders = Arc::try_clone(&last.leaders)?;
+    Ok(Some(SharedTemplate {
+        outline,
+        slacks,
+        leaders,
+    }))
 }

@@ -137,6 +137,7 @@ fn object_plan(
         parts,
         outline: template.outline,
         slacks: template.slacks,
+        leaders: template.leaders,
         bounds,
     };
     Ok(Arc::new(alloc, plan)?)

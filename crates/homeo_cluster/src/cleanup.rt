@@ -124,7 +124,7 @@ impl<N: ClusterNaming> Frame<N> {
         let logged = answer.copy(alloc)?;
         let next = Vec::from_slice(alloc, prepared.next().as_slice())?;
         book.closed.reserve(1)?;
-        pass.log.reserve(1)?;
+        pass.log.reserve(pass.left)?;
         self.end_round(
             &mut book.closed,
             &mut book.base,

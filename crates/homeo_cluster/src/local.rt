@@ -49,7 +49,7 @@ impl<N: ClusterNaming> Frame<N> {
         ensures unchanged { OnErr result (pass.new ≡ pass.old) }
     {
         let call = pass.next();
-        pass.log.reserve(1)?;
+        pass.log.reserve(pass.left)?;
         let (room, mut copies) = cell.site.room(alloc, call, 2)?;
         match cell.site.attempt_in(call, room, &mut copies) {
             Outcome::Keeps(change) => {

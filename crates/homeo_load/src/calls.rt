@@ -42,11 +42,11 @@ fn call(alloc: Global, object: u32, added: u32) -> Result<Call, Memory>
     requires { object < 8 }
     ensures { IfOk result (λ c. plain_call c ≡ load_call (record { object = object; number = added })) }
 {
-    let mut args = List::new(alloc);
+    let mut args = Vec::with_capacity(alloc, 1)?;
     args.push(number(added))?;
     Ok(Call {
         name: ident(transaction_name(object)),
-        args,
+        args: List::from_vec(args),
     })
 }
 
@@ -74,6 +74,7 @@ pub(crate) fn calls_of(
 {
     let mut draws = Draws { state: start };
     let mut list = List::new(alloc);
+    list.reserve(u64::from(calls / COUNT) + 1)?;
     for k in 0..calls {
         let a = next_addition(&mut draws);
         push_if(&mut list, alloc, k % COUNT == client, a)?;

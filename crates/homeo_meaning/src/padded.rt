@@ -11,6 +11,9 @@ pub fn item_or<T: Copy>(items: &[T], n: usize, absent: T) -> T
     if n < items.len() { items[n] } else { absent }
 }
 
+/// For how many items a table has room that gets its first.
+const FIRST_ROOM: usize = 32;
+
 /// Puts an item at a place, with absent ones below it where the table was shorter.
 ///
 /// # Errors
@@ -21,6 +24,9 @@ pub fn put<T: Copy + Drop>(items: &mut Vec<T>, n: usize, item: T, absent: T) -> 
     ensures { OnOk result ((m : ℕ) → slice_index_or items.new.items m absent ≡
         if n == m then item else slice_index_or items.old.items m absent) }
 {
+    if items.is_empty() {
+        items.reserve(FIRST_ROOM)?;
+    }
     while items.len() <= n {
         items.push(absent)?;
     }

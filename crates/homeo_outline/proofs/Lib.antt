@@ -1,3 +1,4 @@
+pub mod Leading
 pub mod Moving
 pub mod Noting
 pub mod Numbers

@@ -1,8 +1,8 @@
 -- Which numbers of items that pass a test there are with one more item.
-use Rattle.std.proofs.Common.{◌≡◌, ℕ, zero, suc, ◌==◌, ◌+◌, ◌<◌, Bool, true, false, cond, ◌&&◌, List, [], ◌∷◌, ◌++◌, get_or, length, refl, ap, ap₂, ◌∙◌, arith}
+use Rattle.std.proofs.Common.{◌≡◌, ◌⊎◌, ℕ, zero, suc, ◌==◌, ◌+◌, ◌<◌, Bool, true, false, cond, ◌&&◌, List, [], ◌∷◌, ◌++◌, take, get_or, length, refl, sym, ap, ap₂, ◌∙◌, inl, inr, ⊎_elim, arith}
 use Rattle.std.specs.Prelude.{◌||◌}
 use Rattle.std.proofs.lemmas.Bool.Decides.{nat_tests}
-use Rattle.std.proofs.lemmas.List.Folds.{list_any-append}
+use Rattle.std.proofs.lemmas.List.Folds.{list_any-append, list_any_more}
 use Rattle.homeo_outline.specs.Numbers.{has, numbers_where}
 
 -- ---- one more item
@@ -73,3 +73,30 @@ numbered test first (suc m) (x ∷ xs) d h = ap (λ n. has n (numbers_where test
 -- an item's number is there where it passes the test
 pub has_number : {X : Type 0} (test : X → Bool) (m : ℕ) (xs : List X) (d : X) → m < length xs → has m (numbers_where test 0 xs) ≡ test (get_or xs m d)
 has_number test m xs d h = let e : m ≡ 0 + m = omega arith in ap (λ n. has n (numbers_where test 0 xs)) e ∙ numbered test 0 m xs d h
+
+-- ---- the first numbers of a list
+or_true : (a b : Bool) → b ≡ true → (a || b) ≡ true
+or_true true b e = refl
+or_true false b e = e
+
+-- one more of the first numbers
+pub more_numbers :
+    (ns : List ℕ) (i n d : ℕ) → i < length ns → (has n (take (i + 1) ns) ≡ true → (has n (take i ns) ≡ true) ⊎ (n ≡ get_or ns i d)) ×
+    ((has n (take i ns) ≡ true) ⊎ (n ≡ get_or ns i d) → has n (take (i + 1) ns) ≡ true)
+more_numbers ns i n d lt = (λ h. back (has n (take i ns)) refl (n == get_or ns i d) refl (sym step ∙ h), λ l. step ∙ ⊎_elim left right l)
+  where
+    step : has n (take (i + 1) ns) ≡ (has n (take i ns) || (n == get_or ns i d))
+    step = list_any_more (λ m. n == m) ns i d lt
+
+    back :
+        (u : Bool) → has n (take i ns) ≡ u → (v : Bool) → (n == get_or ns i d) ≡ v → (has n (take i ns) || (n == get_or ns i d)) ≡ true →
+        (has n (take i ns) ≡ true) ⊎ (n ≡ get_or ns i d)
+    back true p v q h = inl p
+    back false p true q h = inr (grind (arith, nat_tests))
+    back false p false q h = cc
+
+    left : has n (take i ns) ≡ true → (has n (take i ns) || (n == get_or ns i d)) ≡ true
+    left e = ap (λ b. b || (n == get_or ns i d)) e
+
+    right : n ≡ get_or ns i d → (has n (take i ns) || (n == get_or ns i d)) ≡ true
+    right e = let same : (n == get_or ns i d) ≡ true = grind (arith, nat_tests) in or_true (has n (take i ns)) (n == get_or ns i d) same

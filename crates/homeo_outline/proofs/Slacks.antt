@@ -1,5 +1,5 @@
 -- Clauses with terms and slacks, one after another.
-use Rattle.std.proofs.Common.{◌≡◌, ℕ, suc, ◌+◌, ◌<◌, List, [], ◌∷◌, ◌++◌, map, take, get_or, length, ℤ, pos, neg_ℤ, ◌+ℤ◌, refl, sym, ap, ap₂, ◌∙◌, arith, length-take}
+use Rattle.std.proofs.Common.{◌≡◌, ℕ, zero, suc, ◌+◌, ◌<◌, List, [], ◌∷◌, ◌++◌, map, take, get_or, length, ℤ, pos, neg_ℤ, ◌+ℤ◌, refl, sym, ap, ap₂, ◌∙◌, arith, length-take}
 use Rattle.std.specs.Prelude.{slice_index_or}
 use Rattle.std.proofs.lemmas.List.{map-append, length-map, take_more}
 use Rattle.homeo_plan.specs.declared.forms.Term.{Term}
@@ -71,3 +71,20 @@ pub clauses_apart : (cs : List code.Clause) → clauses_with (map (λ t. t.items
 unfolding definitions plan_definitions
 clauses_apart [] = refl
 clauses_apart (c ∷ cs) = ap (λ ds. plain_clause c ∷ ds) (clauses_apart cs)
+
+-- ---- a clause by its number
+pub clause_count : (tss : List (List Term)) (ss : List ℤ) → length (clauses_with tss ss) ≡ length tss
+unfolding definitions
+clause_count [] ss = refl
+clause_count (ts ∷ tss) [] = ap suc (clause_count tss [])
+clause_count (ts ∷ tss) (s ∷ ss) = ap suc (clause_count tss ss)
+
+pub clause_read :
+    (tss : List (List Term)) (ss : List ℤ) (n : ℕ) (d : Clause) → n < length tss →
+    get_or (clauses_with tss ss) n d ≡ record { terms = get_or tss n []; slack = slack_at ss n }
+unfolding definitions
+clause_read [] ss n d lt = absurd (omega (arith, lt))
+clause_read (ts ∷ tss) [] zero d lt = refl
+clause_read (ts ∷ tss) [] (suc n) d lt = clause_read tss [] n d (omega (arith, lt))
+clause_read (ts ∷ tss) (s ∷ ss) zero d lt = refl
+clause_read (ts ∷ tss) (s ∷ ss) (suc n) d lt = clause_read tss ss n d (omega (arith, lt))

@@ -1,4 +1,5 @@
 pub mod Key
+pub mod Leaders
 pub mod Numbers
 pub mod ObjectPlan
 pub mod Outlined

@@ -2,11 +2,13 @@
 //! what commands bring at one base is what they bring at another, and the slacks there.
 #![tactic(auto)]
 
+mod leaders;
 mod outline;
 mod plan;
 mod rebasing;
 mod uses;
 
+pub use leaders::Leaders;
 pub use outline::Outline;
 pub use plan::{ObjectPlan, outlined, whole_template};
 pub use rebasing::{is_rebased, rebased_slacks};

@@ -97,6 +97,11 @@ impl Outline {
         numbers_at(self.clause_uses.as_slice(), object)
     }
 
+    /// How many objects there are up to the largest that a clause names.
+    pub(crate) fn objects(&self) -> usize {
+        self.clause_uses.len()
+    }
+
     /// Lends the numbers of the freezes of an object. They go on after those of all clauses.
     pub fn freezes_on(&self, object: u32) -> &[u32]
         ensures { (n : ℕ) → has n result.now ≡ has n (freezes_on object (length self.now.terms) self.now.freezes) }

@@ -5,6 +5,7 @@ ghost use Rattle.homeo_plan.specs.PlanView.{plain_clause, plain_template};
 ghost use Rattle.homeo_plan.specs.declared.templates.Clause.{Clause};
 ghost use Rattle.homeo_outline.specs.ObjectPlan.{clauses_with, template_with};
 
+use crate::leaders::Leaders;
 use crate::outline::Outline;
 use homeo_follow::PlanPart;
 use homeo_meaning::Database;
@@ -26,6 +27,8 @@ pub struct ObjectPlan {
     pub outline: Arc<Outline>,
     /// The slacks of the clauses, one for each.
     pub slacks: List<i128>,
+    /// Of each object the clauses that are looked at in place of all that name it.
+    pub leaders: Arc<Leaders>,
     /// The bounds of the clauses, where their slacks aren't split evenly.
     pub bounds: Option<Config>,
 }

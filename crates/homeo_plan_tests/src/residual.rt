@@ -6,7 +6,7 @@ ghost use Rattle.homeo_syntax.specs.LowView.{plain_lexpr};
 ghost use Rattle.homeo_plan_tests.specs.inner.ResidualExample.{lowered, IsExample};
 
 use crate::object::{base, object_sum, pair, sum};
-use homeo_outline::{ObjectPlan, Outline, outlined};
+use homeo_outline::{Leaders, ObjectPlan, Outline, outlined};
 use homeo_plan::{Clause, Config, Delta, Residual, Template, Term};
 use homeo_syntax::{LCommand, LExpr, List, SplitName, Temp};
 use std::alloc::Global;
@@ -87,11 +87,13 @@ pub(crate) fn plan(rt: &impl Abort, alloc: Global) -> Arc<ObjectPlan> {
     let taken = bounds_of(rt, alloc, 4, 0);
     let added = bounds_of(rt, alloc, 2, 2);
     let bounds = List::from_vec(vec![in alloc; taken, added].expect(rt, "memory"));
+    let leaders = Leaders::of(alloc, &outline, slacks.as_slice()).expect(rt, "memory");
     let plan = ObjectPlan {
         base: base(rt, alloc, 5),
         parts: List::new(alloc),
         outline: Arc::new(alloc, outline).expect(rt, "memory"),
         slacks,
+        leaders: Arc::new(alloc, leaders).expect(rt, "memory"),
         bounds: Some(Config { bounds }),
     };
     Arc::new(alloc, plan).expect(rt, "memory")

@@ -1,6 +1,6 @@
 -- The lines of a plan's clauses, with one more.
-use Rattle.std.proofs.Common.{◌≡◌, ℕ, zero, suc, ◌+◌, ◌-◌, ◌<◌, ◌≤◌, List, [], ◌∷◌, ◌++◌, map, length, take, drop, get_or, ℤ, pos, ◌≤ℤ◌, Option, Some, None, refl, sym, ap, ap₂, ◌∙◌, subst, arith, append_assoc, append-nil, add-one, drop_of_length-le, length-append}
-use Rattle.std.specs.Prelude.{replicate, codes}
+use Rattle.std.proofs.Common.{rules, ◌≡◌, ℕ, zero, suc, ◌+◌, ◌-◌, ◌<◌, ◌≤◌, List, [], ◌∷◌, ◌++◌, map, length, take, drop, get_or, ℤ, pos, ◌≤ℤ◌, Option, Some, None, refl, sym, ap, ap₂, ◌∙◌, subst, arith, append_assoc, append-nil, add-one, drop_of_length-le, length-append}
+use Rattle.std.specs.Prelude.{replicate, codes, decimal}
 use Rattle.std.specs.Fmt.{signed_decimal}
 use Rattle.std.proofs.Math.Seq.{drop-cons}
 use Rattle.std.proofs.lemmas.Grind.{flat_map-append}
@@ -26,7 +26,7 @@ use Rattle.homeo_print.specs.Key.{definitions}
 use Rattle.homeo_print.specs.Names.{numbers_text}
 use Rattle.homeo_print.specs.Plans.{HasBounds}
 use Rattle.homeo_print.specs.Treaties.{delta_text, term_text, terms_text, clause_text, clauses_text}
-use Rattle.homeo_print.specs.inner.Clauses.{clause_in, bounds_or, bounds_in, first_clauses, first_or, first_bounds}
+use Rattle.homeo_print.specs.inner.Clauses.{clause_in, bounds_or, bounds_in, first_clauses, first_or, first_bounds, term_front}
 use Rattle.homeo_print.proofs.TreatySteps.{clauses_push}
 
 -- ---- bounds of a slack that is split evenly
@@ -66,6 +66,11 @@ module _ (w : s.Workload) (k : ℕ) where
       let next : suc i ≡ i + 1 = omega arith in
       ap (λ n. terms_text w (terms_from i n x f)) left
       ∙ ap (λ m. (codes " " ++ signed_decimal f ++ codes "*" ++ delta_text w (record { object = x; site = i })) ++ terms_text w (terms_from m (k - (i + 1)) x f)) next
+
+  pub front_is : (out : List ℕ) (x : ℕ) (f : ℤ) (i : ℕ)
+      → (out ++ term_front w x f) ++ decimal i ≡ out ++ (codes " " ++ signed_decimal f ++ codes "*" ++ delta_text w (record { object = x; site = i }))
+  unfolding definitions
+  front_is out x f i = search (rules, append_assoc)
 
   pub no_site : (x : ℕ) (f : ℤ) (i : ℕ) → k ≤ i → terms_text w (terms_from i (k - i) x f) ≡ []
   unfolding definitions follow_definitions

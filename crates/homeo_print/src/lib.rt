@@ -21,6 +21,7 @@ mod layout;
 mod objects;
 mod phrases;
 mod pieces;
+mod spaced;
 mod tables;
 mod treaties;
 

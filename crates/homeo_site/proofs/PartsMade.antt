@@ -20,4 +20,5 @@ can_keep w p i accepted site plan =
       site = subst (λ n. i < n) (sym plan.sites) site;
       not_negative = has_object_slack w p.base.items k t plan.template;
       small = small_object_slacks w p.base.items k t plan.template accepted plan.within;
+      led = plan.led;
     }

@@ -20,7 +20,7 @@ use Rattle.homeo_outline.specs.Numbers.{has, numbers_where, names_object, clause
 use Rattle.homeo_outline.specs.ObjectPlan.{template_in, config_in}
 use Rattle.homeo_outline.specs.Outlined.{Outlined}
 use Rattle.homeo_outline.specs.declared.plan.ObjectPlan.{ObjectPlan}
-use Rattle.homeo_outline.proofs.Numbers.{numbered, has_number}
+use Rattle.homeo_outline.proofs.Numbers.{numbered, has_number, more_numbers}
 use Rattle.homeo_site.specs.Key.{definitions}
 use Rattle.homeo_site.specs.inner.Earliest.{IsEarliest, earlier}
 use Rattle.homeo_site.specs.inner.Failures.{sum_failure, frozen_failure, freeze_failure, freeze_failure_from, failure_from, failure_at, own_failure, own_freeze_failure}
@@ -60,28 +60,6 @@ number_within test first n xs h =
 -- all numbers of a list are where each that it has is
 pub all_of_has : (P : ℕ → Type 0) (ns : List ℕ) → ((n : ℕ) → has n ns ≡ true → P n) → All P ns
 all_of_has P ns h k d lt = h (get_or ns k d) (list_any_at (λ m. get_or ns k d == m) ns k d lt (grind (arith, nat_tests)))
-
--- one more of the first numbers
-pub more_numbers :
-    (ns : List ℕ) (i n d : ℕ) → i < length ns → (has n (take (i + 1) ns) ≡ true → (has n (take i ns) ≡ true) ⊎ (n ≡ get_or ns i d)) ×
-    ((has n (take i ns) ≡ true) ⊎ (n ≡ get_or ns i d) → has n (take (i + 1) ns) ≡ true)
-more_numbers ns i n d lt = (λ h. back (has n (take i ns)) refl (n == get_or ns i d) refl (sym step ∙ h), λ l. step ∙ ⊎_elim left right l)
-  where
-    step : has n (take (i + 1) ns) ≡ (has n (take i ns) || (n == get_or ns i d))
-    step = list_any_more (λ m. n == m) ns i d lt
-
-    back :
-        (u : Bool) → has n (take i ns) ≡ u → (v : Bool) → (n == get_or ns i d) ≡ v → (has n (take i ns) || (n == get_or ns i d)) ≡ true →
-        (has n (take i ns) ≡ true) ⊎ (n ≡ get_or ns i d)
-    back true p v q h = inl p
-    back false p true q h = inr (grind (arith, nat_tests))
-    back false p false q h = cc
-
-    left : has n (take i ns) ≡ true → (has n (take i ns) || (n == get_or ns i d)) ≡ true
-    left e = ap (λ b. b || (n == get_or ns i d)) e
-
-    right : n ≡ get_or ns i d → (has n (take i ns) || (n == get_or ns i d)) ≡ true
-    right e = let same : (n == get_or ns i d) ≡ true = grind (arith, nat_tests) in or_true (has n (take i ns)) (n == get_or ns i d) same
 
 -- ---- what fails earliest of the first numbers of a list
 pub none_yet : (failure : ℕ → Option Broken) (ns : List ℕ) → IsEarliest failure (λ n. has n (take 0 ns) ≡ true) None

@@ -15,6 +15,7 @@ use Rattle.homeo_follow.specs.ObjectTemplate.{expanded_clause}
 use Rattle.homeo_outline.specs.Key.{definitions as outline_definitions}
 use Rattle.homeo_outline.specs.ObjectPlan.{clauses_with, template_with, template_in, config_or, config_in}
 use Rattle.homeo_outline.specs.declared.plan.ObjectPlan.{ObjectPlan}
+use Rattle.homeo_outline.proofs.Slacks.{clause_count, clause_read}
 use Rattle.homeo_site.specs.Key.{definitions}
 use Rattle.homeo_site.specs.OwnTreaty.{OwnClause, own_terms, own_clauses}
 use Rattle.homeo_site.specs.inner.Parts.{own_term}
@@ -22,22 +23,6 @@ use Rattle.homeo_site.proofs.ObjectTerms.{own_all}
 use Rattle.homeo_site.proofs.OwnTerms.{even_at, within_even}
 
 -- ---- clauses of these terms and slacks
-clause_at :
-    (tss : List (List Term)) (ss : List ℤ) (n : ℕ) (c : Clause) → n < length tss →
-    get_or (clauses_with tss ss) n c ≡ record { terms = get_or tss n []; slack = get_or ss n (pos 0) }
-unfolding outline_definitions
-clause_at [] ss n c lt = absurd (omega arith)
-clause_at (ts ∷ tss) [] zero c lt = refl
-clause_at (ts ∷ tss) [] (suc n) c lt = clause_at tss [] n c (omega arith)
-clause_at (ts ∷ tss) (s ∷ ss) zero c lt = refl
-clause_at (ts ∷ tss) (s ∷ ss) (suc n) c lt = clause_at tss ss n c (omega arith)
-
-clause_count : (tss : List (List Term)) (ss : List ℤ) → length (clauses_with tss ss) ≡ length tss
-unfolding outline_definitions
-clause_count [] ss = refl
-clause_count (ts ∷ tss) [] = ap suc (clause_count tss [])
-clause_count (ts ∷ tss) (s ∷ ss) = ap suc (clause_count tss ss)
-
 pub slack_at :
     (P : ℤ → Type 0) (tss : List (List Term)) (ss : List ℤ) (n : ℕ) → n < length tss → Each (λ c. P c.slack) (clauses_with tss ss) →
     P (get_or ss n (pos 0))
@@ -83,7 +68,7 @@ module _ (k : ℕ) (tss : List (List Term)) (ss : List ℤ) where
     expanded_at : get_or clauses n (expanded_clause k none) ≡ expanded_clause k (record { terms = get_or tss n []; slack = get_or ss n (pos 0) })
     expanded_at =
         get_or-map (expanded_clause k) (clauses_with tss ss) n none (expanded_clause k none) (subst (λ m. n < m) (sym (clause_count tss ss)) lt)
-        ∙ ap (expanded_clause k) (clause_at tss ss n none lt)
+        ∙ ap (expanded_clause k) (clause_read tss ss n none lt)
 
     pub even_split : get_or (even k clauses) n [] ≡ split (replicate k 1) (get_or ss n (pos 0))
     unfolding follow_definitions

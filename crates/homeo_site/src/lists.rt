@@ -17,7 +17,7 @@ pub(crate) fn zeros(alloc: Global, count: usize) -> Result<Numbers, Memory>
 pub(crate) fn empty_prints(alloc: Global, count: u64) -> Result<Prints, Memory>
     ensures { IfOk result (λ p. p ≡ record { items = []; spare = count }) }
 {
-    let mut prints = List::new(alloc);
+    let mut prints = List::from_vec(Vec::with_capacity(alloc, count as usize)?);
     prints.reserve(count)?;
     Ok(prints)
 }
@@ -26,11 +26,11 @@ pub(crate) fn empty_prints(alloc: Global, count: u64) -> Result<Prints, Memory>
 pub(crate) fn empty_copies(alloc: Global, copies: u32, count: u64) -> Result<List<Prints>, Memory>
     ensures { IfOk result (λ l. l.items ≡ replicate copies (record { items = []; spare = count })) }
 {
-    let mut lists = List::new(alloc);
+    let mut lists = Vec::with_capacity(alloc, copies as usize)?;
     for _ in 0..copies {
         lists.push(empty_prints(alloc, count)?)?;
     }
-    Ok(lists)
+    Ok(List::from_vec(lists))
 }
 
 /// Copies prints into an empty list that has room for them.

@@ -1,18 +1,17 @@
 //! What of its treaty a site checks after a call: the clauses and freezes that stand on what the call wrote.
 
-ghost use Rattle.std.specs.Prelude.{◌≡◌, ◌+◌, ◌<◌, ◌≤◌, ◌+ℤ◌, ◌*ℤ◌, ◌≤ℤ◌, ℕ, pos, true, false, [], All, IsTrue, length, map, slice_index_or, FitsSigned};
+ghost use Rattle.std.specs.Prelude.{◌≡◌, ◌+◌, ◌<◌, ◌≤◌, ◌+ℤ◌, ◌*ℤ◌, ◌≤ℤ◌, ℕ, None, pos, true, false, [], All, IsTrue, length, map, slice_index_or, FitsSigned};
 ghost use Rattle.std.specs.Int.{w128};
 ghost use Rattle.homeo_meaning.specs.Serial.{values_of};
-ghost use Rattle.homeo_plan.specs.Config.{HaveSlack};
 ghost use Rattle.homeo_plan.specs.Joined.{Deltas};
 ghost use Rattle.homeo_plan.specs.PlanView.{plain_config};
 ghost use Rattle.homeo_plan.specs.Treaty.{Treaty, bound_at, finding};
-ghost use Rattle.homeo_outline.specs.Numbers.{has};
-ghost use Rattle.homeo_outline.specs.ObjectPlan.{template_in, config_in, template_with};
+ghost use Rattle.homeo_outline.specs.Numbers.{has, clauses_on};
+ghost use Rattle.homeo_outline.specs.ObjectPlan.{template_in, config_in};
 ghost use Rattle.homeo_site.specs.inner.Earliest.{IsEarliest, earlier};
 ghost use Rattle.homeo_site.specs.inner.Failures.{sum_failure, freeze_failure, own_failure, own_freeze_failure};
 ghost use Rattle.homeo_site.specs.inner.Parts.{own_term, CanKeep};
-ghost use Rattle.homeo_site.specs.inner.PlanFailures.{StandsOn, plan_failure};
+ghost use Rattle.homeo_site.specs.inner.PlanFailures.{HoldLed, StandsOn, plan_failure};
 ghost use Rattle.homeo_site.specs.OwnTreaty.{own_sum, SumsFit, own_clauses};
 
 use homeo_config::even_bound;
@@ -80,13 +79,11 @@ fn may_all_have(sites: u32, sum: i128, slack: i128) -> bool
     }
 }
 
-/// Whether it shows without a division that a sum is at most the bound of each site in a clause of a plan. Where it doesn't, the sum
-/// may still be.
+/// Whether it shows without a division that a sum is at most the bound of each site in a clause of a plan: so many sites may all have
+/// it. Where it doesn't, the sum may still be.
 fn is_within_each(plan: &ObjectPlan, clause: usize, sum: i128) -> bool
-    requires slack { HaveSlack (template_with plan.now.outline.value plan.now.slacks.items).clauses }
-    requires clause { clause < length (template_in plan.now).clauses }
-    ensures { (site : ℕ) → site < plan.now.outline.value.sites → IsTrue result →
-        sum ≤ℤ bound_at (slice_index_or (config_in plan.now) clause []) site }
+    ensures even { IsTrue result → plan.now.bounds ≡ None }
+    ensures room { IsTrue result → (sum *ℤ pos plan.now.outline.value.sites) ≤ℤ slice_index_or plan.now.slacks.items clause (pos 0) }
 {
     plan.bounds.is_none() && may_all_have(plan.outline.sites(), sum, slack_of(plan, clause))
 }
@@ -202,6 +199,57 @@ fn earliest_freeze(
     found
 }
 
+/// Whether it shows that a clause of a plan holds at a site with these deltas, and with it all that have its terms and no less slack.
+fn leader_holds(plan: &ObjectPlan, site: u32, number: u32, deltas: &[i64]) -> bool
+    requires keeps { CanKeep plan.now site }
+    requires fit { All (λ c. SumsFit c.terms (values_of deltas.now))
+        (own_clauses site (template_in plan.now).clauses (config_in plan.now)) }
+    ensures { IsTrue result → HoldLed plan.now site (values_of deltas.now) number }
+{
+    let clause = number as usize;
+    let terms = plan.outline.terms();
+    if clause >= terms.len() {
+        return false;
+    }
+    let sum = own_sum(terms[clause].as_slice(), deltas);
+    is_within_each(plan, clause, sum)
+}
+
+/// Whether it shows by the leaders of an object that all clauses on it hold at a site with these deltas.
+fn leaders_hold(plan: &ObjectPlan, site: u32, object: u32, deltas: &[i64]) -> bool
+    requires keeps { CanKeep plan.now site }
+    requires fit { All (λ c. SumsFit c.terms (values_of deltas.now))
+        (own_clauses site (template_in plan.now).clauses (config_in plan.now)) }
+    ensures { IsTrue result → (n : ℕ) → has n (clauses_on object plan.now.outline.value.terms) ≡ true →
+        own_failure (own_clauses site (template_in plan.now).clauses (config_in plan.now)) (values_of deltas.now) n ≡ None }
+{
+    let leaders = plan.leaders.on(object);
+    if leaders.is_empty() {
+        return false;
+    }
+    for number in leaders {
+        if !leader_holds(plan, site, *number, deltas) {
+            return false;
+        }
+    }
+    true
+}
+
+/// What fails earliest of the clauses of a plan that name an object, at a site with these deltas. Each is looked at only where its leaders
+/// don't show that none fails.
+fn clause_failure_on(plan: &ObjectPlan, site: u32, object: u32, deltas: &[i64]) -> Option<Broken>
+    requires keeps { CanKeep plan.now site }
+    requires fit { All (λ c. SumsFit c.terms (values_of deltas.now))
+        (own_clauses site (template_in plan.now).clauses (config_in plan.now)) }
+    ensures { IsEarliest (own_failure (own_clauses site (template_in plan.now).clauses (config_in plan.now)) (values_of deltas.now))
+        (λ n. has n (clauses_on object plan.now.outline.value.terms) ≡ true) result }
+{
+    if leaders_hold(plan, site, object, deltas) {
+        return None;
+    }
+    earliest_clause(plan, site, plan.outline.clauses_on(object), deltas)
+}
+
 /// What fails earliest of the clauses and freezes of a plan that stand on an object, at a site with these deltas.
 fn failure_on(plan: &ObjectPlan, site: u32, object: u32, deltas: &[i64]) -> Option<Broken>
     requires keeps { CanKeep plan.now site }
@@ -210,7 +258,7 @@ fn failure_on(plan: &ObjectPlan, site: u32, object: u32, deltas: &[i64]) -> Opti
     ensures { IsEarliest (plan_failure plan.now site (values_of deltas.now)) (StandsOn plan.now object) result }
 {
     let outline = &*plan.outline;
-    let clause = earliest_clause(plan, site, outline.clauses_on(object), deltas);
+    let clause = clause_failure_on(plan, site, object, deltas);
     let freeze = earliest_freeze(
         outline.freezes(),
         outline.terms().len(),

@@ -1,5 +1,7 @@
 -- The clauses of a plan as they are printed: over the deltas of its sites, and with their bounds.
-use Rattle.std.specs.Prelude.{ℕ, List, [], map, take, replicate, slice_index_or, ℤ, pos, Option, Some, None}
+use Rattle.std.specs.Prelude.{ℕ, List, [], map, take, replicate, slice_index_or, ℤ, pos, ◌++◌, codes, Option, Some, None}
+use Rattle.std.specs.Fmt.{signed_decimal}
+use Rattle.homeo_syntax.specs.Source as s
 use Rattle.homeo_plan.specs.Config.{Config, split, even}
 use Rattle.homeo_plan.specs.PlanView.{plain_config}
 use Rattle.homeo_plan.specs.Template.{Clause}
@@ -9,6 +11,7 @@ use Rattle.homeo_follow.specs.ObjectTemplate.{expanded_clause}
 use Rattle.homeo_outline.specs.ObjectPlan.{clauses_with}
 use Rattle.homeo_outline.specs.declared.plan.ObjectPlan.{ObjectPlan}
 use Rattle.homeo_print.specs.Key.{definitions}
+use Rattle.homeo_print.specs.Tables.{object_text}
 
 abbrev pub slack_in : ObjectPlan → ℕ → ℤ
 unfolding definitions
@@ -32,6 +35,11 @@ bounds_or other (Some given) n = slice_index_or (plain_config given) n []
 abbrev pub bounds_in : ObjectPlan → ℕ → List ℤ
 unfolding definitions
 bounds_in p n = bounds_or (split (replicate p.outline.value.sites 1) (slack_in p n)) p.bounds n
+
+-- F*x@ behind a space: the term of an object up to the number of its site
+abbrev pub term_front : s.Workload → ℕ → ℤ → List ℕ
+unfolding definitions
+term_front w x f = codes " " ++ signed_decimal f ++ codes "*" ++ object_text w x ++ codes "@"
 
 -- ---- the first n clauses
 abbrev pub first_clauses : ObjectPlan → ℕ → List Clause

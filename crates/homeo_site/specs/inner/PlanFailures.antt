@@ -1,5 +1,5 @@
 -- What fails at a site by a plan, number by number, and what stands on objects.
-use Rattle.std.specs.Prelude.{◌≡◌, ◌⊎◌, ℕ, ◌<◌, nat_lt, true, cond, List, length, slice_index_or, Option}
+use Rattle.std.specs.Prelude.{◌≡◌, ◌⊎◌, ℕ, ◌<◌, nat_lt, true, cond, List, [], length, slice_index_or, pos, ◌≤ℤ◌, Option, None}
 use Rattle.homeo_plan.specs.declared.treaty.Broken.{Broken}
 use Rattle.homeo_plan.specs.Joined.{Deltas}
 use Rattle.homeo_outline.specs.Numbers.{has, clauses_on, freezes_on}
@@ -13,6 +13,13 @@ abbrev pub plan_failure : ObjectPlan → ℕ → Deltas → ℕ → Option Broke
 plan_failure p i x n =
     cond (nat_lt n (length (template_in p).clauses)) (own_failure (own_clauses i (template_in p).clauses (config_in p)) x n)
     (own_freeze_failure (length (template_in p).clauses) i (template_in p).freezes x n)
+
+-- no clause fails that has the terms of clause m and no less slack
+abbrev pub HoldLed : ObjectPlan → ℕ → Deltas → ℕ → Type 0
+HoldLed p i x m =
+    (n : ℕ) → n < length p.outline.value.terms → slice_index_or p.outline.value.terms m [] ≡ slice_index_or p.outline.value.terms n [] →
+    slice_index_or p.slacks.items m (pos 0) ≤ℤ slice_index_or p.slacks.items n (pos 0) →
+    own_failure (own_clauses i (template_in p).clauses (config_in p)) x n ≡ None
 
 -- the number is that of a clause or of a freeze that names the object
 abbrev pub StandsOn : ObjectPlan → ℕ → ℕ → Type 0

@@ -30,4 +30,5 @@ returns c =
           ∙ ap (λ k. expanded_template k (template_with c.in_ok-outline.outline slacks)) sites
           ∙ ap (expanded_template c.args.sites) c.in_ok-outline.ensures.template
           ∙ c.in_ok-template.ensures.template;
+      led = ?;
     }

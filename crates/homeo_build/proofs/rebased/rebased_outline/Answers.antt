@@ -6,8 +6,10 @@ use Rattle.homeo_syntax.specs.SourceView.{plain_workload}
 use Rattle.homeo_meaning.specs.Serial.{values_of}
 use Rattle.homeo_follow.specs.Rebased.{rebased_clause, gains}
 use Rattle.homeo_outline.specs.Key.{definitions as outline_definitions}
+use Rattle.homeo_outline.specs.Leaders.{Lead}
 use Rattle.homeo_outline.specs.ObjectPlan.{clauses_with, template_with}
 use Rattle.homeo_outline.specs.Outlined.{Outlined}
+use Rattle.homeo_outline.proofs.Leading.{leaders_stay}
 use Rattle.homeo_follow.specs.ObjectTemplate.{expanded_template}
 use Rattle.homeo_build.specs.Key.{definitions}
 use Rattle.homeo_build.proofs.Following.{shared_part}
@@ -43,4 +45,8 @@ returns c =
     record {
       sites = ap (λ (n : Outlined). n.sites) same ∙ c.requires.last.sites;
       template = ap (λ (n : Outlined). expanded_template n.sites (template_with n slacks)) same ∙ there;
+      led =
+          subst (λ (n : Outlined). Lead n.terms slacks c.in_ok-leaders.leaders.value) (sym same)
+          (subst (λ ls. Lead o.terms slacks ls) (sym c.in_ok-leaders.ensures)
+          (leaders_stay (gains (values_of last.base.items) (values_of base)) o.terms last.slacks.items slacks moved last.leaders.value c.requires.last.led));
     }

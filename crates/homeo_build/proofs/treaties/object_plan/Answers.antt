@@ -34,6 +34,7 @@ returns c =
         parts = c.requires.parts;
         sites = is.sites;
         template = is.template;
+        led = is.led;
       });
       policy = ap config_in c.in_ok-new.ensures.ok ∙ c.in_ok-bounds.ensures ∙ policy_is w base (spread c.args.template) is.template;
     }

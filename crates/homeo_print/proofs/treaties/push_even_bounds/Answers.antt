@@ -26,9 +26,7 @@ loop-site-preserved c =
     let so_far = c.loop-site.invariant ∙ ap (λ z. old ++ numbers_text (take site (of z))) slack in
     let fits : SFits w128 c.even_bound.result = search rules in
     let bound = to_z-of_z w128 c.even_bound.result fits ∙ c.even_bound.ensures ∙ ap (λ z. bound_at (of z) site) slack in
-    c.in_ok-push_wide.ensures
-    ∙ ap₂ (λ l n. l ++ signed_decimal n) (c.in_ok-push_byte.ensures ∙ ap (λ l. l ++ 32 ∷ []) so_far) bound
-    ∙ append_assoc (old ++ text) (32 ∷ []) last ∙ append_assoc old text (32 ∷ last)
+    c.in_ok-push.ensures ∙ ap₂ (λ l n. l ++ 32 ∷ signed_decimal n) so_far bound ∙ append_assoc old text (32 ∷ last)
     ∙ ap (λ l. old ++ l) (sym (bounds_more c.args.sites c.args.slack c.requires.not_negative site c.loop-site-test.true))
     ∙ ap (λ z. old ++ numbers_text (take (site + 1) (of z))) (sym slack)
 

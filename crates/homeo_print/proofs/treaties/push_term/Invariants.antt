@@ -7,5 +7,5 @@ use Rattle.homeo_print.proofs.treaties.push_term.Given as goal
 abbrev pub invariant-loop-site : goal.invariant-loop-site
 invariant-loop-site l =
     let w = plain_workload l.w in
-    l.out.items ++ terms_text w (terms_from l.site (l.sites - l.site) l.term.delta.object l.term.factor)
-    ≡ l.fn.out.items ++ terms_text w (terms_from 0 l.sites l.term.delta.object l.term.factor)
+    l.out.items ++ terms_text w (terms_from l.site (l.sites - l.site) l.fn.term.delta.object l.fn.term.factor)
+    ≡ l.fn.out.items ++ terms_text w (terms_from 0 l.sites l.fn.term.delta.object l.fn.term.factor)

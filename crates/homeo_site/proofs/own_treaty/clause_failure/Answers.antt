@@ -8,6 +8,7 @@ use Rattle.homeo_outline.specs.ObjectPlan.{config_in}
 use Rattle.homeo_outline.specs.Outlined.{Outlined}
 use Rattle.homeo_site.specs.inner.Failures.{sum_failure}
 use Rattle.homeo_site.proofs.OwnChecks.{lent_count, clause_fits, clause_fails, nothing_fails}
+use Rattle.homeo_site.proofs.PlanClauses.{within_each}
 use Rattle.homeo_site.proofs.own_treaty.clause_failure.Goals as goal
 
 pub bounds-terms-clause : goal.bounds-terms-clause
@@ -31,7 +32,8 @@ returns-then-is_within_each c =
     c.index-terms-clause.result c.index-terms-clause.is c.as_slice.result.now c.as_slice.ensures (values_of c.args.deltas.now)
     c.own_sum-sum.result c.own_sum-sum.ensures
     (subst (λ z. z ≤ℤ bound_at (get_or (config_in p) c.args.number []) c.args.site) back
-    (c.if-is_within_each.ensures c.args.site c.requires.keeps.site refl))
+    (within_each p c.args.number c.requires.number (c.if-is_within_each.ensures.even refl) c.requires.keeps.not_negative c.args.site c.requires.keeps.site
+    (to_z w128 (of_z w128 c.own_sum-sum.result)) (c.if-is_within_each.ensures.room refl)))
 
 pub returns : goal.returns
 returns c =
