@@ -29,6 +29,7 @@ use Rattle.homeo_follow.specs.ObjectTemplate.{expanded_clause, expanded_template
 use Rattle.homeo_outline.specs.Key.{definitions as outline_definitions}
 use Rattle.homeo_outline.specs.ObjectPlan.{clauses_with, template_with}
 use Rattle.homeo_outline.specs.declared.plan.ObjectPlan.{ObjectPlan}
+use Rattle.homeo_outline.proofs.Slacks.{clause_count}
 use Rattle.homeo_plan.proofs.DeltaLists.{After, in_order_puts, each_put_all}
 use Rattle.homeo_follow.proofs.Terms.{each_append}
 use Rattle.homeo_build.specs.Plan.{IsPlanOf, IsObjectPlan}
@@ -154,13 +155,6 @@ whole_few w base k t accepted is =
     let freezes = ap (λ (u : Template). length u.freezes) is in
     omega (arith, clauses, freezes, length-map t.clauses (expanded_clause k), clauses_few w base accepted, freezes_few w base accepted)
 
--- a clause for each list of terms
-one_each : (tss : List (List Term)) (ss : List ℤ) → length (clauses_with tss ss) ≡ length tss
-unfolding outline_definitions
-one_each [] ss = refl
-one_each (ts ∷ tss) [] = ap suc (one_each tss [])
-one_each (ts ∷ tss) (s ∷ ss) = ap suc (one_each tss ss)
-
 pub object_plan_few :
     (w : s.Workload) (base : List ℤ) (p : ObjectPlan) → IsAccepted w → IsObjectPlan w base p →
     length p.outline.value.terms + length p.outline.value.freezes < 2 ^ 32
@@ -168,4 +162,4 @@ unfolding outline_definitions
 object_plan_few w base p accepted plan =
     let o = p.outline.value in
     let few = whole_few w base o.sites (template_with o p.slacks.items) accepted plan.template in
-    omega (arith, few, one_each o.terms p.slacks.items)
+    omega (arith, few, clause_count o.terms p.slacks.items)

@@ -1,5 +1,5 @@
 -- Clauses that are led: with one more leader, with another one, with one more object, and at another base.
-use Rattle.std.proofs.Common.{◌≡◌, ◌⊎◌, ℕ, zero, suc, ◌+◌, ◌<◌, ◌≤◌, ◌==◌, Bool, true, false, List, [], ◌∷◌, ◌++◌, map, length, get_or, set, ℤ, pos, ◌≤ℤ◌, ◌<ℤ◌, ◌+ℤ◌, neg_ℤ, int_lt, refl, sym, ap, ap₂, ◌∙◌, subst, inl, inr, ⊎_elim, arith}
+use Rattle.std.proofs.Common.{◌≡◌, ◌⊎◌, ℕ, zero, suc, ◌<◌, ◌==◌, Bool, true, false, List, [], ◌∷◌, ◌++◌, map, length, get_or, set, ℤ, pos, ◌≤ℤ◌, ◌+ℤ◌, neg_ℤ, int_lt, refl, sym, ap, ◌∙◌, subst, inl, inr, ⊎_elim, arith}
 use Rattle.std.specs.Prelude.{◌||◌}
 use Rattle.std.proofs.lemmas.Int.{ints}
 use Rattle.std.proofs.lemmas.Bool.Decides.{nat_tests}
@@ -9,7 +9,6 @@ use Rattle.homeo_plan.specs.declared.forms.Term.{Term}
 use Rattle.homeo_plan.specs.Template.{Clause}
 use Rattle.homeo_follow.specs.Key.{definitions as follow_definitions}
 use Rattle.homeo_follow.specs.Rebased.{gained, rebased_clause}
-use Rattle.homeo_outline.specs.Key.{definitions}
 use Rattle.homeo_outline.specs.Leaders.{IsLed, Lead}
 use Rattle.homeo_outline.specs.Numbers.{has, clauses_on}
 use Rattle.homeo_outline.specs.ObjectPlan.{clauses_with}
@@ -68,7 +67,7 @@ has_put (m ∷ ms) (suc k) v lt = or_right (v == m) (has v (set ms k v)) (has_pu
 same_at_most : (a : ℤ) → a ≤ℤ a
 same_at_most a = grind (arith, ints)
 
-at_most_both : (a b c : ℤ) → a ≤ℤ b → b ≤ℤ c → a ≤ℤ c
+pub at_most_both : (a b c : ℤ) → a ≤ℤ b → b ≤ℤ c → a ≤ℤ c
 at_most_both a b c h g = grind (arith, ints)
 
 pub less_at_most : (a b : ℤ) → int_lt a b ≡ true → a ≤ℤ b

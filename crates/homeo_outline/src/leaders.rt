@@ -43,7 +43,7 @@ impl Leaders {
     pub fn of(alloc: Global, outline: &Outline, slacks: &[i128]) -> Result<Leaders, Memory>
         ensures { IfOk result (Lead outline.now.terms slacks.now) }
     {
-        let mut numbers = Vec::new(alloc);
+        let mut numbers = Vec::with_capacity(alloc, outline.objects())?;
         for object in 0..outline.objects() {
             numbers.push(leaders_on(alloc, outline, slacks, object)?)?;
         }

@@ -1,5 +1,5 @@
 -- One clause more is led.
-use Rattle.std.proofs.Common.{◌≡◌, ℕ, true, get_or, sym, ap, ◌∙◌, subst, ⊎_elim}
+use Rattle.std.proofs.Common.{get_or, sym, ap, ◌∙◌, subst, ⊎_elim}
 use Rattle.std.proofs.lemmas.List.{take_all}
 use Rattle.homeo_outline.specs.Leaders.{IsLed}
 use Rattle.homeo_outline.specs.Numbers.{has}

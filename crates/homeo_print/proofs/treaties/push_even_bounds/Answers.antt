@@ -1,5 +1,5 @@
 -- One bound more.
-use Rattle.std.proofs.Common.{rules, append_assoc, append-nil, ◌+◌, List, [], ◌∷◌, ◌++◌, ℕ, ℤ, take, sym, ap, ap₂, ◌∙◌, SFits}
+use Rattle.std.proofs.Common.{rules, append_assoc, append-nil, ◌+◌, List, ◌∷◌, ◌++◌, ℕ, ℤ, take, sym, ap, ap₂, ◌∙◌, SFits}
 use mir.Syntax.{w128}
 use Rattle.std.specs.Prelude.{replicate}
 use Rattle.std.specs.Fmt.{signed_decimal}

@@ -1,5 +1,5 @@
 -- One object more.
-use Rattle.std.proofs.Common.{◌≡◌, ◌+◌, ℕ, List, [], ◌∷◌, map, length, true, Global, sym, ap, ◌∙◌, subst, arith, length-append}
+use Rattle.std.proofs.Common.{◌≡◌, ◌+◌, ℕ, List, [], ◌∷◌, map, length, true, Global, sym, ap, ◌∙◌, subst, length-append}
 use Rattle.std.specs.Prelude.{Vec}
 use Rattle.std.proofs.lemmas.List.{length-map, map-append}
 use Rattle.homeo_outline.specs.Leaders.{Lead}
@@ -9,7 +9,7 @@ use Rattle.homeo_outline.proofs.leaders.Leaders.of.Goals as goal
 
 pub loop-object-init : goal.loop-object-init
 loop-object-init c =
-    let none = c.new-numbers.ensures.items in
+    let none = c.in_ok-numbers.ensures.items in
     (ap length none,
     subst (λ (ls : List (Vec ℕ Global)). Lead c.args.outline.now.terms c.args.slacks.now (map (λ v. v.items) ls)) (sym none)
     (lead_none c.args.outline.now.terms c.args.slacks.now))
