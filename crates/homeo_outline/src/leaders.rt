@@ -16,6 +16,7 @@ use std::marker::Model;
 const FEW_CLAUSES: usize = 3;
 /// So many leaders may an object have, and so many terms each, that to find them is linear in the clauses.
 const MOST_LEADERS: usize = 8;
+
 const MOST_TERMS: usize = 4;
 
 /// Of each object the numbers of the clauses that lead those on it. An object has none where it has few clauses, and where these have

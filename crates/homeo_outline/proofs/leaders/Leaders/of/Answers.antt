@@ -9,10 +9,11 @@ use Rattle.homeo_outline.proofs.leaders.Leaders.of.Goals as goal
 
 pub loop-object-init : goal.loop-object-init
 loop-object-init c =
-    let none = c.in_ok-numbers.ensures.items in
-    (ap length none,
-    subst (λ (ls : List (Vec ℕ Global)). Lead c.args.outline.now.terms c.args.slacks.now (map (λ v. v.items) ls)) (sym none)
-    (lead_none c.args.outline.now.terms c.args.slacks.now))
+    let none = c.in_ok-numbers.ensures.items in (
+      ap length none,
+      subst (λ (ls : List (Vec ℕ Global)). Lead c.args.outline.now.terms c.args.slacks.now (map (λ v. v.items) ls)) (sym none)
+          (lead_none c.args.outline.now.terms c.args.slacks.now),
+    )
 
 pub loop-object-preserved : goal.loop-object-preserved
 loop-object-preserved c =
@@ -23,11 +24,12 @@ loop-object-preserved c =
     let v = c.in_ok-leaders_on.field-0 in
     let so_far = c.loop-object.invariant in
     let more = c.in_ok-push.ensures.items in
-    let counted : length (map items old) ≡ c.loop-object.object = length-map old items ∙ so_far.0 in
-    (ap length more ∙ length-append old (v ∷ []) ∙ ap (λ n. n + 1) so_far.0,
-    subst (Lead tss ss) (sym (ap (map items) more ∙ map-append items old (v ∷ [])))
-    (lead_more tss ss (map items old) v.items so_far.1
-    (λ n some is. c.in_ok-leaders_on.ensures n some (subst (λ m. has n (clauses_on m tss) ≡ true) counted is))))
+    let counted : length (map items old) ≡ c.loop-object.object = length-map old items ∙ so_far.0 in (
+      ap length more ∙ length-append old (v ∷ []) ∙ ap (λ n. n + 1) so_far.0,
+      subst (Lead tss ss) (sym (ap (map items) more ∙ map-append items old (v ∷ [])))
+          (lead_more tss ss (map items old) v.items so_far.1
+          (λ n some is. c.in_ok-leaders_on.ensures n some (subst (λ m. has n (clauses_on m tss) ≡ true) counted is))),
+    )
 
 pub returns : goal.returns
 returns c = c.loop-object.invariant.1
