@@ -1,7 +1,7 @@
 -- The template of an accepted workload freezes few deltas: each once, of its objects at its sites.
 use Rattle.homeo_meaning.specs.Key.{definitions as meaning_definitions}
 use Rattle.homeo_plan.specs.Key.{definitions as plan_definitions}
-use Rattle.std.proofs.Common.{◌≡◌, ℕ, ◌+◌, ◌*◌, ◌^◌, ◌<◌, ◌≤◌, suc, true, List, [], ◌∷◌, map, length, ℤ, refl, sym, ap, subst, arith}
+use Rattle.std.proofs.Common.{◌≡◌, ℕ, ◌+◌, ◌*◌, ◌^◌, ◌<◌, ◌≤◌, true, List, [], ◌∷◌, map, length, ℤ, sym, ap, subst, arith}
 use Rattle.std.proofs.lemmas.Bool.Decides.{nat_tests}
 use Rattle.std.proofs.lemmas.List.{length-map}
 use Rattle.homeo_syntax.specs.Source as s
@@ -18,7 +18,6 @@ use Rattle.homeo_lform.proofs.NamedWithin.{named_law}
 use Rattle.homeo_lform.proofs.ObjectBounds.{bounds_count}
 use Rattle.homeo_plan.specs.Each.{Each}
 use Rattle.homeo_plan.specs.declared.forms.Delta.{Delta}
-use Rattle.homeo_plan.specs.declared.forms.Term.{Term}
 use Rattle.homeo_plan.specs.Linear.{AreInOrder, delta_before, Linear}
 use Rattle.homeo_plan.specs.Planned.{sites_of, planned_call, planned, template_at}
 use Rattle.homeo_plan.specs.PlanView.{plain_clause}
@@ -27,7 +26,7 @@ use Rattle.homeo_plan.specs.Template.{PlannedCall, atoms_of, needs_of, atoms_of_
 use Rattle.homeo_follow.specs.Key.{definitions as follow_definitions}
 use Rattle.homeo_follow.specs.ObjectTemplate.{expanded_clause, expanded_template}
 use Rattle.homeo_outline.specs.Key.{definitions as outline_definitions}
-use Rattle.homeo_outline.specs.ObjectPlan.{clauses_with, template_with}
+use Rattle.homeo_outline.specs.ObjectPlan.{template_with}
 use Rattle.homeo_outline.specs.declared.plan.ObjectPlan.{ObjectPlan}
 use Rattle.homeo_outline.proofs.Slacks.{clause_count}
 use Rattle.homeo_plan.proofs.DeltaLists.{After, in_order_puts, each_put_all}
