@@ -2,7 +2,9 @@ pub mod CallsOfSites
 pub mod Earliest
 pub mod Limits
 pub mod LocalSteps
+pub mod Numbered
 pub mod ObjectTerms
+pub mod OnObjects
 pub mod OrderedAtoms
 pub mod OwnChecks
 pub mod OwnEvals

@@ -14,9 +14,8 @@ use Rattle.homeo_outline.specs.ObjectPlan.{template_in, config_in}
 use Rattle.homeo_outline.specs.declared.plan.ObjectPlan.{ObjectPlan}
 use Rattle.homeo_site.specs.Key.{definitions}
 use Rattle.homeo_site.specs.inner.Failures.{sum_failure, first_of, own_failure}
-use Rattle.homeo_site.specs.inner.Parts.{own_term}
-use Rattle.homeo_site.specs.OwnTreaty.{OwnClause, own_sum, SumsFit, own_clauses}
-use Rattle.homeo_site.proofs.PlanClauses.{template_count, own_is, own_count}
+use Rattle.homeo_site.specs.OwnTreaty.{own_term, OwnClause, own_sum, SumsFit, own_clauses}
+use Rattle.homeo_site.proofs.PlanClauses.{template_count, own_is, fits_at}
 
 -- ---- the first of two
 first_is : (a b : Option Broken) → is_some a ≡ true → a ≡ first_of a b
@@ -54,6 +53,17 @@ module _ (p : ObjectPlan) where
 
 -- ---- the clause of a number, by its terms as they are lent
 module _
+    (p : ObjectPlan) (n : ℕ) (within : n < length (template_in p).clauses) (ls : List (Listed Term))
+    (lent : map (λ (l : Listed Term). l.items) ls ≡ p.outline.value.terms) (l : Listed Term) (there : l ≡ get_or ls n l)
+    (ts : List Term) (terms : ts ≡ l.items)
+  where
+    pub terms_there : ts ≡ get_or p.outline.value.terms n []
+    terms_there =
+        let lt : n < length ls = subst (λ m. n < m) (sym (lent_count p ls lent)) within in
+        terms ∙ ap (λ (m : Listed Term). m.items) there ∙ sym (get_or-map (λ (m : Listed Term). m.items) ls n l [] lt)
+        ∙ ap (λ tss. get_or tss n []) lent
+
+module _
     (p : ObjectPlan) (i n : ℕ) (site : i < p.outline.value.sites) (within : n < length (template_in p).clauses) (ls : List (Listed Term))
     (lent : map (λ (l : Listed Term). l.items) ls ≡ p.outline.value.terms) (l : Listed Term) (there : l ≡ get_or ls n l)
     (ts : List Term) (terms : ts ≡ l.items)
@@ -64,23 +74,17 @@ module _
     abbrev bound : ℤ
     bound = bound_at (get_or (config_in p) n []) i
 
-    terms_there : ts ≡ get_or p.outline.value.terms n []
-    terms_there =
-        let lt : n < length ls = subst (λ m. n < m) (sym (lent_count p ls lent)) within in
-        terms ∙ ap (λ (m : Listed Term). m.items) there ∙ sym (get_or-map (λ (m : Listed Term). m.items) ls n l [] lt)
-        ∙ ap (λ tss. get_or tss n []) lent
+    here : ts ≡ get_or p.outline.value.terms n []
+    here = terms_there p n within ls lent l there ts terms
 
     clause_is : (d : OwnClause) → get_or cs n d ≡ record { terms = map own_term ts; bound = bound }
     clause_is d =
         own_is p n within i site d
-        ∙ ap (λ us. record { terms = map own_term us; bound = bound }) (sym terms_there)
+        ∙ ap (λ us. record { terms = map own_term us; bound = bound }) (sym here)
 
     -- its sums fit where those of all do
     pub clause_fits : (x : Deltas) → All (λ (o : OwnClause). SumsFit o.terms x) cs → SumsFit (map own_term ts) x
-    clause_fits x fit =
-        let none : OwnClause = record { terms = []; bound = pos 0 } in
-        subst (λ (o : OwnClause). SumsFit o.terms x) (clause_is none)
-        (fit n none (subst (λ m. n < m) (sym (own_count i (template_in p).clauses (config_in p))) within))
+    clause_fits x fit = subst (λ us. SumsFit (map own_term us) x) (sym here) (fits_at p n within i site x fit)
 
     -- what fails of it
     pub clause_fails : (x : Deltas) → own_failure cs x n ≡ sum_failure n (own_sum (map own_term ts) x) bound

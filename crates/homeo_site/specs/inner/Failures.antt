@@ -11,6 +11,10 @@ use Rattle.homeo_plan.specs.Linear.{delta_of}
 use Rattle.homeo_site.specs.Key.{definitions}
 use Rattle.homeo_site.specs.OwnTreaty.{OwnClause, own_sum}
 
+-- the number of what fails
+abbrev pub clause_number : Broken → ℕ
+clause_number b = b.clause
+
 -- a sum above the bound fails
 abbrev pub sum_failure : ℕ → ℤ → ℤ → Option Broken
 unfolding definitions
