@@ -56,6 +56,13 @@ pub record IsCallHere (w : s.Workload) (p : ObjectPlan) (call : CallId) (site : 
   pub exists : CallExists w call
   pub at : site ≡ (planned_at w call).site
 
+-- its step, by lists that are lent
+pub lent_step :
+    {w : s.Workload} {base : List ℤ} {before : List CallId} {call : CallId} {new : List ℤ} {written : List ℕ} → IsStep w base before call new written →
+    (ds : List ℤ) (ws : List ℕ) → ds ≡ new → ws ≡ written → IsStep w base before call ds ws
+lent_step {w} {base} {before} {call} {new} step ds ws same others =
+    subst (λ l. IsStep w base before call l ws) (sym same) (subst (IsStep w base before call new) (sym others) step)
+
 module _
     {w : s.Workload} {p : ObjectPlan} {call : CallId} {site : ℕ} (here : IsCallHere w p call site) {before : List CallId} {old : Replay}
     (kept : IsReplay w p.base.items before old)
@@ -232,6 +239,10 @@ module _
                     let peak_is = old_is p.outline.value.sites vs d (own_visit site new) site sum (get_or now n r) room refl site_in_plan refl (pos 0) in
                     lower p.outline.value.sites vs d (own_visit site new) site sum (get_or now n r) room refl site_in_plan refl (pos 0)
                     (subst (λ z. sum ≤ℤ z) (sym peak_is) low)
+
+        pub raised_count :
+            (rs now : List Room) → rs ≡ old.rooms.items → Raises p vs site new (StandsOnOne p written (length written)) rs now → length now ≡ length rs
+        raised_count rs now is raises = (raises.either (either_there rs is)).count ∙ sym (rooms_there rs is).count
 
         pub goes_on_there :
             (rs now : List Room) (next : Replay) (deltas : Listed ℤ) → rs ≡ old.rooms.items →

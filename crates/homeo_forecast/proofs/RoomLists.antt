@@ -59,16 +59,15 @@ module _ (p : ObjectPlan) (site : ℕ) (deltas : List ℤ) where
   raised_below rs n can lt = subst (λ m. n < m) (sym can.rooms.count) lt
 
   -- a room is open whether or not it has taken the visit
-  pub open_now : (rs : List Room) (n : ℕ) (r : Room) → CanRaise p rs site deltas → n < length cs → r ≡ get_or rs n r → IsOpen site r
+  pub open_now : (rs : List Room) (n : ℕ) (r : Room) → CanRaise p rs site deltas → n < length cs → IsOpen site (get_or rs n r)
   unfolding plan_definitions
-  open_now rs n r can lt is =
-      subst (IsOpen site) (sym is)
-      (⊎_elim
+  open_now rs n r can lt =
+      ⊎_elim
       (λ old. is_open k can.visits (get_or cs n none) site (get_or rs n r) old
       (each_there (λ (d : Clause). total (peaks k can.visits d) ≤ℤ d.slack) cs n none lt can.before) can.sums.below)
       (λ new. is_open k (with_own can.visits site deltas) (get_or cs n none) site (get_or rs n r) new
       (each_there (λ (d : Clause). total (peaks k (with_own can.visits site deltas) d) ≤ℤ d.slack) cs n none lt can.after) can.sums.below)
-      (can.rooms.each n none r lt))
+      (can.rooms.each n none r lt)
 
   pub still_can :
       (old new : List Room) (Looked : ℕ → Type 0) → ((vs : List Visit) → Raises p vs site deltas Looked old new) → CanRaise p old site deltas →
@@ -92,10 +91,10 @@ module _ (p : ObjectPlan) (site : ℕ) (deltas : List ℤ) where
 
     -- the room of one clause rises
     pub one_raise :
-        (rs : List Room) (n : ℕ) (r : Room) → n < length cs →
-        ((c : Clause) (q : Room) → HasRoom k vs (get_or cs n c) (get_or rs n q) ⊎ HasRoom k us (get_or cs n c) (get_or rs n q) → HasRoom k us (get_or cs n c) r) →
+        (rs : List Room) (n : ℕ) (d r : Room) → n < length cs →
+        ((c : Clause) → HasRoom k vs (get_or cs n c) (get_or rs n d) ⊎ HasRoom k us (get_or cs n c) (get_or rs n d) → HasRoom k us (get_or cs n c) r) →
         Raises p vs site deltas (λ m. m ≡ n) rs (set rs n r)
-    one_raise rs n r lt has = record {
+    one_raise rs n d r lt has = record {
       either = λ h. record {
         count = set_count rs n r ∙ h.count;
         each = λ m c q below. ⊎_elim
@@ -113,7 +112,7 @@ module _ (p : ObjectPlan) (site : ℕ) (deltas : List ℤ) where
         there : EitherRooms p vs site deltas rs → (m : ℕ) (c : Clause) (q : Room) → m ≡ n → HasRoom k us (get_or cs m c) (get_or (set rs n r) m q)
         there h m c q same =
             subst (λ j. HasRoom k us (get_or cs j c) (get_or (set rs n r) j q)) (sym same)
-            (subst (HasRoom k us (get_or cs n c)) (sym (set_here rs n r q (subst (λ j. n < j) (sym h.count) lt))) (has c q (h.each n c q lt)))
+            (subst (HasRoom k us (get_or cs n c)) (sym (set_here rs n r q (subst (λ j. n < j) (sym h.count) lt))) (has c (h.each n c d lt)))
 
     -- one more step, after which more were looked at
     pub more_raised :

@@ -14,11 +14,11 @@ use Rattle.homeo_build.proofs.GroundCalls.{ground_below}
 
 pub ground_site :
     (w : s.Workload) (call : CallId) (n : ℕ) (calls : List GroundCall) (g : GroundCall) → map plain_ground calls ≡ grounds w →
-    n < length (grounds w) → slice_get (grounds w) n ≡ ground_of w call → g ≡ get_or calls n g → g.site ≡ (planned_at w call).site
+    n < length (grounds w) → slice_get (grounds w) n ≡ ground_of w call → g ≡ get_or calls n g → (get_or calls n g).site ≡ (planned_at w call).site
 unfolding plan_definitions
 ground_site w call n calls g are within ground is =
     let there : slice_get (map plain_ground calls) n ≡ Some (plain_ground g) = placed_map plain_ground calls n g (ground_below w calls n are within) is in
     let found : Some (plain_ground g) ≡ ground_of w call = sym there ∙ ap (λ l. slice_get l n) are ∙ ground in
     let same : planned_call w (plain_ground g) ≡ planned_at w call =
     ap (λ (o : Option Ground). option_map_or (planned_call w) o (record { site = 0; command = Skip })) found in
-    ap (λ (h : PlannedCall). h.site) same
+    ap (λ (h : GroundCall). h.site) (sym is) ∙ ap (λ (h : PlannedCall). h.site) same

@@ -66,7 +66,7 @@ pub(crate) fn raise_all(
     site: u32,
     deltas: &[i64],
 )
-    requires can { CanRaise plan.now rooms.old site deltas.now }
+    requires { CanRaise plan.now rooms.old site deltas.now }
     ensures { (vs : List Visit) → Raises plan.now vs site deltas.now (StandsOnOne plan.now written.now (length written.now))
         rooms.old rooms.new }
 {

@@ -139,7 +139,7 @@ fn stop_on(
     site: u32,
     deltas: &[i64],
 ) -> Result<Option<Stop>, Memory>
-    requires can { CanTest plan.now rooms.now site deltas.now }
+    requires { CanTest plan.now rooms.now site deltas.now }
     ensures { (vs : List Visit) → AreRooms plan.now vs rooms.now → IfOk result (λ o. IsEarliest stop_number
         (plan_stop plan.now (with_own vs site deltas.now) (own_visit site deltas.now)) (StandsOn plan.now object) (option_map plain_stop o)) }
 {
@@ -166,7 +166,7 @@ pub(crate) fn first_stop(
     site: u32,
     deltas: &[i64],
 ) -> Result<Option<Stop>, Memory>
-    requires can { CanTest plan.now rooms.now site deltas.now }
+    requires { CanTest plan.now rooms.now site deltas.now }
     ensures { (vs : List Visit) (before : Deltas) → AreRooms plan.now vs rooms.now → StandsAfter plan.now vs site before →
         ((n : ℕ) → has n written.now ≡ false → values_of deltas.now n ≡ before n) → IfOk result (λ o. option_map plain_stop o ≡
         first_stop plan.now.outline.value.sites (template_in plan.now) vs (own_visit site deltas.now)) }

@@ -12,6 +12,7 @@ pub mod OwnFailures
 pub mod OwnFits
 pub mod OwnSums
 pub mod OwnTerms
+pub mod OwnWrites
 pub mod PartsMade
 pub mod PlanChecks
 pub mod PlanClauses
@@ -22,4 +23,3 @@ pub mod StepFindings
 pub mod StepsRun
 pub mod TemplateClauses
 pub mod WalkRuns
-pub mod WrittenObjects

@@ -1,5 +1,5 @@
 -- What a site checks of a plan's clauses is what the treaty says of its deltas.
-use Rattle.std.proofs.Common.{◌≡◌, ℕ, ◌+◌, ◌<◌, ◌≤◌, List, [], map, length, get_or, ℤ, pos, ◌≤ℤ◌, int_le, All, true, false, cond, Option, Some, None, is_some, refl, sym, ap, ◌∙◌, subst, arith}
+use Rattle.std.proofs.Common.{◌≡◌, ℕ, ◌<◌, List, [], map, length, get_or, ℤ, pos, ◌≤ℤ◌, int_le, All, true, false, cond, Option, Some, None, refl, sym, ap, ◌∙◌, subst, arith}
 use Rattle.std.proofs.lemmas.Int.{ints}
 use Rattle.std.proofs.lemmas.List.{length-map, get_or-map}
 use Rattle.homeo_syntax.specs.Listed.{Listed}
@@ -13,24 +13,9 @@ use Rattle.homeo_outline.specs.Key.{definitions as outline_definitions}
 use Rattle.homeo_outline.specs.ObjectPlan.{template_in, config_in}
 use Rattle.homeo_outline.specs.declared.plan.ObjectPlan.{ObjectPlan}
 use Rattle.homeo_site.specs.Key.{definitions}
-use Rattle.homeo_site.specs.inner.Failures.{sum_failure, first_of, own_failure}
+use Rattle.homeo_site.specs.inner.Failures.{sum_failure, own_failure}
 use Rattle.homeo_site.specs.OwnTreaty.{own_term, OwnClause, own_sum, SumsFit, own_clauses}
 use Rattle.homeo_site.proofs.PlanClauses.{template_count, own_is, fits_at}
-
--- ---- the first of two
-first_is : (a b : Option Broken) → is_some a ≡ true → a ≡ first_of a b
-unfolding definitions
-first_is None b e = cc
-first_is (Some f) b e = refl
-
-pub first_found : (f a b : Option Broken) → is_some f ≡ true → f ≡ a → f ≡ first_of a b
-unfolding definitions
-first_found f a b some e = e ∙ first_is a b (ap is_some (sym e) ∙ some)
-
-pub second_is : (a b : Option Broken) → is_some a ≡ false → b ≡ first_of a b
-unfolding definitions
-second_is None b e = refl
-second_is (Some f) b e = cc
 
 -- ---- the template of a plan
 module _ (p : ObjectPlan) where
@@ -40,16 +25,6 @@ module _ (p : ObjectPlan) where
   pub template_freezes : (ds : List Delta) → ds ≡ p.outline.value.freezes → ds ≡ (template_in p).freezes
   unfolding follow_definitions outline_definitions
   template_freezes ds same = same
-
-  -- what is frozen has its numbers after those of the clauses
-  pub freezes_there :
-      (ls : List (Listed Term)) (ds : List Delta) (ns : List ℕ) → map (λ (l : Listed Term). l.items) ls ≡ p.outline.value.terms →
-      ds ≡ p.outline.value.freezes →
-      All (λ n. (length (template_in p).clauses ≤ n) × (n < length (template_in p).clauses + length (template_in p).freezes)) ns →
-      All (λ n. (length ls ≤ n) × (n < length ls + length ds)) ns
-  freezes_there ls ds ns clauses freezes h =
-      subst (λ (l : List Delta). All (λ n. (length ls ≤ n) × (n < length ls + length l)) ns) (sym (template_freezes ds freezes))
-      (subst (λ m. All (λ n. (m ≤ n) × (n < m + length (template_in p).freezes)) ns) (sym (lent_count ls clauses)) h)
 
 -- ---- the clause of a number, by its terms as they are lent
 module _

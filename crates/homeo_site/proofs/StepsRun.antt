@@ -140,12 +140,3 @@ module _
       alone_runs =
           subst (λ (r : Row). can_exec_all run_limit r.residual here ≡ true)
           (sym (row_at_walk (shifted k g) here (no_temps b i own)) ∙ same_row) (residual_runs run_limit (shifted k g) here call_runs)
-
--- ---- a call of a site
-pub step_runs :
-    (w : s.Workload) (x : SiteState) → IsAccepted w → IsReady w x → (call : CallId) → IsCallAt w x.number call →
-    can_exec_all run_limit (base_row (sites_of w) (values_of x.base) (planned_at w call)).residual
-    (alone (values_of x.base) x.number (values_of x.deltas)) ≡ true
-step_runs w x accepted h call at =
-    alone_runs w x.base x.number (values_of x.deltas) accepted h.within h.site h.meets h.all (planned_at w call)
-    (planned_member w call at.exists) (call_site w x.number call at)

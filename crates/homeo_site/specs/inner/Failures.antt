@@ -50,18 +50,6 @@ abbrev pub failure_at : Template → Config → ℕ → Deltas → ℕ → Optio
 unfolding definitions
 failure_at t config i x m = failure_from 0 i x t.clauses config t.freezes m
 
--- the first, or else the second
-abbrev pub first_of : Option Broken → Option Broken → Option Broken
-unfolding definitions
-first_of None next = next
-first_of (Some f) next = Some f
-
--- the first that fails of numbers, one after another
-abbrev pub first_failure : (ℕ → Option Broken) → List ℕ → Option Broken
-unfolding definitions
-first_failure failure [] = None
-first_failure failure (n ∷ ns) = first_of (failure n) (first_failure failure ns)
-
 -- ---- what a site keeps of the treaty
 -- what fails at a number of a site's own clauses
 abbrev pub own_failure : List OwnClause → Deltas → ℕ → Option Broken

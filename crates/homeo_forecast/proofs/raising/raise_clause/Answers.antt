@@ -21,7 +21,6 @@ bounds-rooms-number c = raised_below c.args.plan.now c.args.site c.args.deltas.n
 pub raise-requires : goal.raise-requires
 raise-requires c =
     open_now c.args.plan.now c.args.site c.args.deltas.now c.args.rooms.now c.args.number c.index-rooms-number.result c.requires.can c.requires.number
-    c.index-rooms-number.is
 
 pub returns : goal.returns
 returns c = λ vs.
@@ -31,7 +30,8 @@ returns c = λ vs.
     let fits : SFits w128 c.clause_sum-sum.result = search rules in
     let sum : (d : Clause) → to_z w128 (of_z w128 c.clause_sum-sum.result) ≡ site_sum c.args.site (get_or (template_in p).clauses c.args.number d).terms (values_of c.args.deltas.now) =
     λ d. to_z-of_z w128 c.clause_sum-sum.result fits ∙ c.clause_sum-sum.ensures c.args.site d c.requires.can.sums.below in
-    one_raise p c.args.site c.args.deltas.now vs c.args.rooms.now c.args.number c.raise.new.self c.requires.number
-    (λ d q room. ⊎_elim
+    one_raise p c.args.site c.args.deltas.now vs c.args.rooms.now c.args.number c.index-rooms-number.result
+    c.raise.new.self c.requires.number
+    (λ d room. ⊎_elim
     (λ old. c.raise.ensures.raised k vs (get_or (template_in p).clauses c.args.number d) v old refl c.requires.can.sums.below (sum d))
     (λ new. c.raise.ensures.again k vs (get_or (template_in p).clauses c.args.number d) v new refl c.requires.can.sums.below (sum d)) room)

@@ -11,7 +11,7 @@ use Rattle.homeo_forecast.specs.inner.Raising.{own_visit}
 use Rattle.homeo_forecast.proofs.RoomLists.{room_at, room_below, open_there}
 use Rattle.homeo_forecast.proofs.stops.clause_stop.Goals as goal
 
-none : Clause
+abbrev none : Clause
 none = record { terms = []; slack = pos 0 }
 
 pub clause_sum-sum-requires-clause-fits : goal.clause_sum-sum-requires-clause-fits

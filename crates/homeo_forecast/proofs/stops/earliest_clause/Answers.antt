@@ -9,8 +9,8 @@ use Rattle.homeo_forecast.proofs.stops.earliest_clause.Goals as goal
 pub loop-number-init : goal.loop-number-init
 loop-number-init c = λ vs rooms. none_yet stop_number _ c.args.numbers.now
 
-pub clause_stop-stop-requires-clause-number : goal.clause_stop-stop-requires-clause-number
-clause_stop-stop-requires-clause-number c = c.requires.numbers c.loop-number.number-index 0 c.loop-number-test.true
+pub clause_stop-requires-clause-number : goal.clause_stop-requires-clause-number
+clause_stop-requires-clause-number c = c.requires.numbers c.loop-number.number-index 0 c.loop-number-test.true
 
 pub loop-number-preserved : goal.loop-number-preserved
 loop-number-preserved c = λ vs rooms.

@@ -5,8 +5,8 @@ use Rattle.homeo_forecast.specs.inner.Raising.{own_visit}
 use Rattle.homeo_forecast.proofs.PlanStops.{stops_on}
 use Rattle.homeo_forecast.proofs.stops.stop_on.Goals as goal
 
-pub earliest_clause-clause-requires-clause-numbers : goal.earliest_clause-clause-requires-clause-numbers
-earliest_clause-clause-requires-clause-numbers c =
+pub earliest_clause-requires-clause-numbers : goal.earliest_clause-requires-clause-numbers
+earliest_clause-requires-clause-numbers c =
     clause_numbers c.args.plan.now c.args.object _ c.clauses_on-clauses.result.now [] c.deref-outline.ensures c.clauses_on-clauses.ensures
 
 pub earliest_freeze-freeze-requires : goal.earliest_freeze-freeze-requires

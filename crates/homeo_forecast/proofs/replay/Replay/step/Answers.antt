@@ -15,8 +15,8 @@ all_ok :
 all_ok h (Ok x) p q r = h x p q r
 all_ok h (Err e) p q r = tt
 
-pub bounds-deltas-site : goal.bounds-deltas-site
-bounds-deltas-site c =
+pub index-requires : goal.index-requires
+index-requires c =
     let here : IsCallHere (plain_workload c.args.c.now) c.args.plan.now c.args.call c.args.site =
     record { accepted = c.requires.accepted; plan = c.requires.plan; exists = c.requires.exists; at = c.requires.site } in
     site_there here c.requires.replay.is
@@ -27,7 +27,7 @@ local_step-requires-clause-places c =
     let p = c.args.plan.now in
     let here : IsCallHere w p c.args.call c.args.site =
     record { accepted = c.requires.accepted; plan = c.requires.plan; exists = c.requires.exists; at = c.requires.site } in
-    let ready = ready_there here c.requires.replay.is c.index-deltas-site.result c.index-deltas-site.is c.as_slice-deltas.result.now c.as_slice-deltas.ensures in
+    let ready = ready_there here c.requires.replay.is c.index.result.now c.index.ensures c.as_slice-deltas.result.now c.as_slice-deltas.ensures in
     let form = c.form.ensures (planned_at w c.args.call) (planned_there w c.args.call c.place-place.result c.place-place.ensures.within c.place-place.ensures.place) in
     run_places w p.base.items _ c.args.site c.as_slice-deltas.result.now c.requires.accepted ready c.args.call c.requires.exists (sym c.requires.site)
     (plain_lcommand c.form.result.now) c.as_slice.result.now form c.as_slice.ensures
@@ -38,7 +38,7 @@ local_step-requires-clause-sums c =
     let p = c.args.plan.now in
     let here : IsCallHere w p c.args.call c.args.site =
     record { accepted = c.requires.accepted; plan = c.requires.plan; exists = c.requires.exists; at = c.requires.site } in
-    let ready = ready_there here c.requires.replay.is c.index-deltas-site.result c.index-deltas-site.is c.as_slice-deltas.result.now c.as_slice-deltas.ensures in
+    let ready = ready_there here c.requires.replay.is c.index.result.now c.index.ensures c.as_slice-deltas.result.now c.as_slice-deltas.ensures in
     let form = c.form.ensures (planned_at w c.args.call) (planned_there w c.args.call c.place-place.result c.place-place.ensures.within c.place-place.ensures.place) in
     run_sums w p.base.items _ c.args.site c.as_slice-deltas.result.now c.requires.accepted ready c.args.call c.requires.exists (sym c.requires.site)
     (plain_lcommand c.form.result.now) c.as_slice.result.now form c.as_slice.ensures
@@ -49,7 +49,7 @@ local_step-requires-clause-small c =
     let p = c.args.plan.now in
     let here : IsCallHere w p c.args.call c.args.site =
     record { accepted = c.requires.accepted; plan = c.requires.plan; exists = c.requires.exists; at = c.requires.site } in
-    let ready = ready_there here c.requires.replay.is c.index-deltas-site.result c.index-deltas-site.is c.as_slice-deltas.result.now c.as_slice-deltas.ensures in
+    let ready = ready_there here c.requires.replay.is c.index.result.now c.index.ensures c.as_slice-deltas.result.now c.as_slice-deltas.ensures in
     let form = c.form.ensures (planned_at w c.args.call) (planned_there w c.args.call c.place-place.result c.place-place.ensures.within c.place-place.ensures.place) in
     run_small w p.base.items _ c.args.site c.as_slice-deltas.result.now c.requires.accepted ready c.args.call c.requires.exists (sym c.requires.site)
     (plain_lcommand c.form.result.now) c.as_slice.result.now form c.as_slice.ensures
@@ -60,10 +60,10 @@ returns c = λ before kept.
     let p = c.args.plan.now in
     let here : IsCallHere w p c.args.call c.args.site =
     record { accepted = c.requires.accepted; plan = c.requires.plan; exists = c.requires.exists; at = c.requires.site } in
-    let ready = ready_there here kept c.index-deltas-site.result c.index-deltas-site.is c.as_slice-deltas.result.now c.as_slice-deltas.ensures in
+    let ready = ready_there here kept c.index.result.now c.index.ensures c.as_slice-deltas.result.now c.as_slice-deltas.ensures in
     let form = c.form.ensures (planned_at w c.args.call) (planned_there w c.args.call c.place-place.result c.place-place.ensures.within c.place-place.ensures.place) in
     all_ok
-    (λ s count left others. step_there here kept c.index-deltas-site.result c.index-deltas-site.is c.as_slice-deltas.result.now c.as_slice-deltas.ensures
+    (λ s count left others. step_there here kept c.index.result.now c.index.ensures c.as_slice-deltas.result.now c.as_slice-deltas.ensures
     s.deltas.items s.written.items count
     (run_deltas w p.base.items _ c.args.site c.as_slice-deltas.result.now c.requires.accepted ready c.args.call c.requires.exists (sym c.requires.site)
     (plain_lcommand c.form.result.now) c.as_slice.result.now form c.as_slice.ensures
