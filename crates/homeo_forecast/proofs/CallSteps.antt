@@ -12,7 +12,6 @@ use Rattle.homeo_meaning.specs.Calls.{CallExists}
 use Rattle.homeo_meaning.specs.Schema.{schema_of}
 use Rattle.homeo_meaning.specs.Serial.{values_of}
 use Rattle.homeo_plan.specs.Key.{definitions as plan_definitions}
-use Rattle.homeo_plan.specs.Each.{Each}
 use Rattle.homeo_plan.specs.Joined.{Deltas}
 use Rattle.homeo_plan.specs.Local.{no_deltas, local_deltas}
 use Rattle.homeo_plan.specs.Planned.{sites_of, planned_at, template_at}

@@ -18,7 +18,6 @@ use Rattle.homeo_outline.specs.ObjectPlan.{template_in}
 use Rattle.homeo_outline.specs.Outlined.{Outlined}
 use Rattle.homeo_outline.specs.declared.plan.ObjectPlan.{ObjectPlan}
 use Rattle.homeo_site.specs.Earliest.{IsEarliest, earlier}
-use Rattle.homeo_site.specs.OwnTreaty.{own_term, own_sum}
 use Rattle.homeo_site.specs.StandsOn.{StandsOn, StandsOnOne}
 use Rattle.homeo_site.proofs.Earliest.{Within, none_looked, passed_one, found_one, same_earliest}
 use Rattle.homeo_site.proofs.OnObjects.{clause_stands, freeze_stands, on_all, first_is, freezes_are, on_object}

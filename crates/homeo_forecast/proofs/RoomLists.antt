@@ -1,5 +1,5 @@
 -- Rooms at their places, and rooms that take one visit more.
-use Rattle.std.proofs.Common.{◌≡◌, ◌⊎◌, inl, inr, ⊎_elim, ℕ, ◌+◌, ◌<◌, ◌≤◌, true, false, List, [], ◌∷◌, ◌++◌, length, get_or, take, ℤ, pos, ◌+ℤ◌, ◌≤ℤ◌, FitsSigned, sym, ap, ◌∙◌, subst, arith}
+use Rattle.std.proofs.Common.{◌≡◌, ◌⊎◌, inl, inr, ⊎_elim, ℕ, ◌+◌, ◌<◌, ◌≤◌, List, [], length, get_or, take, ℤ, pos, ◌+ℤ◌, ◌≤ℤ◌, FitsSigned, sym, ◌∙◌, subst, arith}
 use Rattle.std.specs.Int.{w128}
 use Rattle.std.proofs.Math.ListN.{set}
 use Rattle.homeo_plan.specs.Key.{definitions as plan_definitions}
@@ -8,8 +8,6 @@ use Rattle.homeo_plan.specs.Template.{Clause}
 use Rattle.homeo_outline.specs.Numbers.{has}
 use Rattle.homeo_outline.specs.ObjectPlan.{template_in}
 use Rattle.homeo_outline.specs.declared.plan.ObjectPlan.{ObjectPlan}
-use Rattle.homeo_site.specs.StandsOn.{StandsOn, StandsOnOne}
-use Rattle.homeo_site.proofs.Numbered.{more_numbers}
 use Rattle.homeo_forecast.specs.Peaks.{peaks}
 use Rattle.homeo_forecast.specs.Visits.{Visit}
 use Rattle.homeo_forecast.specs.declared.rooms.Room.{Room}

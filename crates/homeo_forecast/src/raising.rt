@@ -26,13 +26,7 @@ pub(crate) fn clause_sum(plan: &ObjectPlan, number: u32, deltas: &[i64]) -> i128
 }
 
 /// Raises the peak of a site with these deltas in the clause of this number in a plan.
-fn raise_clause(
-    rooms: &mut [Room],
-    plan: &ObjectPlan,
-    number: u32,
-    site: u32,
-    deltas: &[i64],
-)
+fn raise_clause(rooms: &mut [Room], plan: &ObjectPlan, number: u32, site: u32, deltas: &[i64])
     requires number { number < length (template_in plan.now).clauses }
     requires can { CanRaise plan.now rooms.old site deltas.now }
     ensures { (vs : List Visit) → Raises plan.now vs site deltas.now (λ n. n ≡ number) rooms.old rooms.new }
@@ -42,13 +36,7 @@ fn raise_clause(
 }
 
 /// Raises the peaks of a site with these deltas in the clauses of these numbers in a plan.
-fn raise_clauses(
-    rooms: &mut [Room],
-    plan: &ObjectPlan,
-    numbers: &[u32],
-    site: u32,
-    deltas: &[i64],
-)
+fn raise_clauses(rooms: &mut [Room], plan: &ObjectPlan, numbers: &[u32], site: u32, deltas: &[i64])
     requires numbers { All (λ n. n < length (template_in plan.now).clauses) numbers.now }
     requires can { CanRaise plan.now rooms.old site deltas.now }
     ensures { (vs : List Visit) → Raises plan.now vs site deltas.now (λ n. has n numbers.now ≡ true) rooms.old rooms.new }
@@ -71,12 +59,6 @@ pub(crate) fn raise_all(
         rooms.old rooms.new }
 {
     for object in written {
-        raise_clauses(
-            rooms,
-            plan,
-            plan.outline.clauses_on(*object),
-            site,
-            deltas,
-        );
+        raise_clauses(rooms, plan, plan.outline.clauses_on(*object), site, deltas);
     }
 }

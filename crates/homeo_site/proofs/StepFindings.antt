@@ -1,6 +1,5 @@
 -- What a site keeps of a treaty fails as the treaty does, number by number.
-use Rattle.std.proofs.Common.{◌≡◌, ℕ, zero, suc, ◌+◌, ◌-◌, ◌<◌, ◌≤◌, Bool, true, false, cond, List, [], ◌∷◌, length, get_or, ℤ, pos, All, refl, sym, ap, ap₂, ◌∙◌, subst, arith}
-use Rattle.std.proofs.lemmas.List.Elements.{All-nil, All-cons}
+use Rattle.std.proofs.Common.{◌≡◌, ℕ, zero, suc, ◌+◌, ◌-◌, ◌<◌, List, [], ◌∷◌, length, get_or, ℤ, pos, refl, sym, ap, ap₂, ◌∙◌, subst, arith}
 use Rattle.homeo_syntax.specs.Source as s
 use Rattle.homeo_meaning.specs.Key.{definitions as meaning_definitions}
 use Rattle.homeo_meaning.specs.LowMeaning.{whole}
@@ -19,7 +18,6 @@ use Rattle.homeo_plan.specs.Treaty.{bound_at, KeepsClauses}
 use Rattle.homeo_plan.proofs.Replays.{planned_whole}
 use Rattle.homeo_plan.proofs.Straight.{walk_straight}
 use Rattle.homeo_plan.proofs.Tables.{row_at_walk}
-use Rattle.homeo_outline.specs.Numbers.{numbers_where}
 use Rattle.homeo_site.specs.Key.{definitions}
 use Rattle.homeo_site.specs.inner.Failures.{sum_failure, freeze_failure, freeze_failure_from, failure_from}
 use Rattle.homeo_site.specs.OwnTreaty.{own_sum, own_clauses}

@@ -1,5 +1,5 @@
 -- The terms over whole objects stand for those of the site's own deltas.
-use Rattle.std.proofs.Common.{◌<◌, ◌∙◌, map, sym, ap, subst, SFits, to_z, of_z, rules}
+use Rattle.std.proofs.Common.{◌<◌, ◌∙◌, map, sym, ap, subst, SFits, rules}
 use mir.Syntax.{w128}
 use Rattle.std.proofs.lemmas.Int.{to_z-of_z}
 use Rattle.homeo_meaning.specs.Serial.{values_of}

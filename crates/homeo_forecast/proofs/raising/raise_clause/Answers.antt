@@ -1,5 +1,5 @@
 -- The room of the number takes the visit, whether or not it has already.
-use Rattle.std.proofs.Common.{◌≡◌, ◌∙◌, [], get_or, pos, refl, ⊎_elim, SFits, to_z, of_z, rules}
+use Rattle.std.proofs.Common.{◌≡◌, ◌∙◌, get_or, refl, ⊎_elim, SFits, to_z, of_z, rules}
 use mir.Syntax.{w128}
 use Rattle.std.proofs.lemmas.Int.{to_z-of_z}
 use Rattle.homeo_meaning.specs.Serial.{values_of}

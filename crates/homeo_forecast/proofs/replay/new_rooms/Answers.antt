@@ -1,5 +1,5 @@
 -- One more clause, and all of them.
-use Rattle.std.proofs.Common.{◌≡◌, ◌<◌, ◌≤◌, ◌∙◌, [], get_or, length, pos, sym, ap, subst, arith, SFits, to_z, of_z, rules}
+use Rattle.std.proofs.Common.{◌<◌, ◌∙◌, [], get_or, length, pos, sym, ap, subst, arith, SFits, rules}
 use mir.Syntax.{w128}
 use Rattle.std.proofs.lemmas.Int.{to_z-of_z}
 use Rattle.homeo_plan.specs.Template.{Clause}
@@ -25,7 +25,7 @@ loop-clause-preserved c =
     let count = lent_count p c.terms-clause-end.result.now (c.terms-clause-end.ensures ∙ ap (λ (o : Outlined). o.terms) c.deref.ensures) in
     let lt : n < length (template_in p).clauses = omega (arith, c.loop-clause-test.true, count) in
     let fits : SFits w128 c.item_or-slack.result = search rules in
-    let slack = to_z-of_z w128 c.item_or-slack.result fits ∙ c.item_or-slack.ensures in
+    let slack = to_z-of_z w128 c.item_or-slack.result fits ∙ c.item_or-slack.ensures ∙ ap (λ l. get_or l n (pos 0)) c.as_slice.ensures in
     let sites = c.sites.ensures ∙ ap (λ (o : Outlined). o.sites) c.deref-in-loop-clause.ensures in
     one_room p.outline.value.sites [] (template_in p).clauses n none _ _ _ lt c.loop-clause.invariant
     (subst (λ k. HasRoom k [] (get_or (template_in p).clauses n none) c.in_ok-new.field-0) sites

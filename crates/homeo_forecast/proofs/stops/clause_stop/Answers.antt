@@ -1,5 +1,5 @@
 -- The room of the number is that of the clause, and the sum is the site's.
-use Rattle.std.proofs.Common.{[], get_or, pos, refl, sym, ◌∙◌, SFits, to_z, of_z, rules}
+use Rattle.std.proofs.Common.{[], get_or, pos, refl, ◌∙◌, SFits, rules}
 use mir.Syntax.{w128}
 use Rattle.std.proofs.lemmas.Int.{to_z-of_z}
 use Rattle.homeo_meaning.specs.Serial.{values_of}

@@ -1,5 +1,5 @@
 -- The form that is run is that of the call, from the deltas of its site, and what it leaves is the call's visit.
-use Rattle.std.proofs.Common.{sym, IfOk}
+use Rattle.std.proofs.Common.{sym, IfOk, arith}
 use Rattle.std.specs.declared.result.Result.{Result}
 use Rattle.std.specs.declared.result.Result.TheVariants.{Ok, Err}
 use Rattle.homeo_syntax.specs.LowView.{plain_lcommand}
@@ -19,7 +19,8 @@ pub index-requires : goal.index-requires
 index-requires c =
     let here : IsCallHere (plain_workload c.args.c.now) c.args.plan.now c.args.call c.args.site =
     record { accepted = c.requires.accepted; plan = c.requires.plan; exists = c.requires.exists; at = c.requires.site } in
-    site_there here c.requires.replay.is
+    let there = site_there here c.requires.replay.is in
+    omega (arith, there, c.args.self.now.deltas.ok.0)
 
 pub local_step-requires-clause-places : goal.local_step-requires-clause-places
 local_step-requires-clause-places c =
