@@ -23,8 +23,8 @@ use std::alloc::Global;
 
 /// How far a list of calls goes from a base without a cleanup, by the configuration that serves it best: the length of the
 /// longest prefix that some fitting configuration serves, each call replayed at its own site, with one that serves it, and what
-/// stops the next call (this project's rule). It takes time in proportion to the calls, to the objects, and to the clauses and
-/// freezes that stand on what they write.
+/// stops the next call (this project's rule). Each call takes time in proportion to its L form, to the objects, and to the clauses
+/// and freezes that stand on what it writes.
 ///
 /// Each call must be one of the workload, and the base must be within its bounds.
 ///
