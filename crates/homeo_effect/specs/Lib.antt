@@ -1,10 +1,7 @@
-pub mod Counts
 pub mod EffectsView
 pub mod Indexed
 pub mod Key
 pub mod Localized
 pub mod OwnCommands
-pub mod OwnState
-pub mod Program
 pub mod Touched
 pub mod inner

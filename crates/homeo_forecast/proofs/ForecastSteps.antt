@@ -1,5 +1,5 @@
 -- What is kept of a list of calls gives its forecast.
-use Rattle.std.proofs.Common.{◌≡◌, ℕ, ◌+◌, ◌<◌, ◌≤◌, true, List, [], ◌∷◌, ◌++◌, length, get_or, take, replicate, slice_get, ℤ, pos, Option, Some, None, is_some, option_map, refl, sym, ap, ap₂, ◌∙◌, subst, arith}
+use Rattle.std.proofs.Common.{◌≡◌, ℕ, ◌+◌, ◌<◌, ◌≤◌, true, List, [], ◌∷◌, ◌++◌, length, get_or, take, replicate, slice_get, ℤ, pos, Option, Some, None, is_some, option_map, refl, sym, ap, ◌∙◌, subst, arith}
 use Rattle.std.proofs.lemmas.List.{take_more}
 use Rattle.std.proofs.lemmas.Option.{slice_get-get_or}
 use Rattle.homeo_syntax.specs.Source as s
@@ -9,56 +9,36 @@ use Rattle.homeo_meaning.specs.Calls.{CallExists}
 use Rattle.homeo_plan.specs.Config.{Config}
 use Rattle.homeo_plan.specs.Each.{Each}
 use Rattle.homeo_plan.specs.Planned.{sites_of, template_at}
-use Rattle.homeo_plan.specs.PlanView.{plain_template}
 use Rattle.homeo_plan.specs.Template.{Clause, Template}
 use Rattle.homeo_plan.proofs.Policy.{some_sites}
+use Rattle.homeo_outline.specs.declared.plan.ObjectPlan.{ObjectPlan}
+use Rattle.homeo_build.specs.Plan.{IsObjectPlan}
 use Rattle.homeo_forecast.specs.Forecast.{IsForecast}
 use Rattle.homeo_forecast.specs.Peaks.{first_stop, peak_config}
 use Rattle.homeo_forecast.specs.View.{plain_stop}
 use Rattle.homeo_forecast.specs.Visits.{Visit, visits, next_visit}
 use Rattle.homeo_forecast.specs.declared.outlook.Stop as code
-use Rattle.homeo_forecast.specs.declared.prepared.Prepared.{Prepared}
 use Rattle.homeo_forecast.specs.declared.replay.Replay.{Replay}
 use Rattle.homeo_forecast.specs.declared.rooms.Room.{Room}
-use Rattle.homeo_forecast.specs.inner.Prepared.{IsPrepared}
-use Rattle.homeo_forecast.specs.inner.Replays.{site_lists, IsReplay, IsSomeReplay, CanBound}
-use Rattle.homeo_forecast.specs.inner.Rooms.{HaveRooms}
+use Rattle.homeo_forecast.specs.inner.Replays.{site_lists, IsReplay, CanBound}
+use Rattle.homeo_forecast.specs.inner.Rooms.{AreRooms, HaveRooms}
 use Rattle.homeo_forecast.proofs.Peaks.{served_peaks}
 use Rattle.homeo_forecast.proofs.Prefixes.{forecasts_stand}
 use Rattle.homeo_forecast.proofs.ReplayLists.{begun}
 use Rattle.homeo_forecast.proofs.Lists.{all_taken}
 
--- ---- what is prepared
-pub rebased : (w : s.Workload) (base : List ℤ) (p : Prepared) → IsPrepared w base p → IsPrepared w p.plan.value.base.items p
-rebased w base p h = subst (λ b. IsPrepared w b p) (sym h.plan.base) h
+-- ---- the base of a plan
+pub based : (w : s.Workload) (base : List ℤ) (p : ObjectPlan) → IsObjectPlan w base p → IsObjectPlan w p.base.items p
+based w base p h = subst (λ b. IsObjectPlan w b p) (sym h.base) h
 
 pub begun_at :
-    (w : s.Workload) (base : List ℤ) (p : Prepared) (r : Replay) → IsPrepared w base p →
-    site_lists r ≡ replicate p.template.sites (replicate (length p.plan.value.base.items) (pos 0)) →
-    HaveRooms p.template.sites [] (plain_template p.template).clauses r.rooms.items → IsReplay w base [] r
-begun_at w base p r h lists rooms =
-    begun w base r h.accepted
-    (lists ∙ ap₂ (λ k n. replicate k (replicate n (pos 0))) h.sites (ap length h.plan.base))
-    (subst (λ k. HaveRooms k [] (template_at w base).clauses r.rooms.items) h.sites
-    (subst (λ (t : Template). HaveRooms p.template.sites [] t.clauses r.rooms.items) h.template rooms))
-
-pub on_plan : (w : s.Workload) (base : List ℤ) (p : Prepared) (calls : List CallId) (r : Replay) → IsPrepared w base p → IsReplay w base calls r →
-    IsReplay w p.plan.value.base.items calls r
-on_plan w base p calls r h is = subst (λ b. IsReplay w b calls r) (sym h.plan.base) is
-
-pub off_plan : (w : s.Workload) (base : List ℤ) (p : Prepared) (calls : List CallId) (r : Replay) → IsPrepared w base p →
-    IsReplay w p.plan.value.base.items calls r → IsReplay w base calls r
-off_plan w base p calls r h is = subst (λ b. IsReplay w b calls r) h.plan.base is
-
-pub some_replay : (w : s.Workload) (base : List ℤ) (p : Prepared) (calls : List CallId) (r : Replay) → IsPrepared w base p → IsReplay w base calls r →
-    IsSomeReplay w p.plan.value.base.items r
-some_replay w base p calls r h is = record { calls = calls; is = on_plan w base p calls r h is }
-
-pub same_stop : (w : s.Workload) (base : List ℤ) (p : Prepared) (before : List CallId) (call : CallId) → IsPrepared w base p →
-    first_stop (sites_of w) (template_at w p.plan.value.base.items) (visits w p.plan.value.base.items before) (next_visit w p.plan.value.base.items before call)
-    ≡ first_stop (sites_of w) (template_at w base) (visits w base before) (next_visit w base before call)
-same_stop w base p before call h =
-    ap (λ b. first_stop (sites_of w) (template_at w b) (visits w b before) (next_visit w b before call)) h.plan.base
+    (w : s.Workload) (p : ObjectPlan) (r : Replay) → IsAccepted w → IsObjectPlan w p.base.items p →
+    site_lists r ≡ replicate p.outline.value.sites (replicate (length p.base.items) (pos 0)) → AreRooms p [] r.rooms.items → IsReplay w p.base.items [] r
+begun_at w p r accepted h lists rooms =
+    begun w p.base.items r accepted
+    (lists ∙ ap (λ k. replicate k (replicate (length p.base.items) (pos 0))) h.sites)
+    (subst (λ k. HaveRooms k [] (template_at w p.base.items).clauses r.rooms.items) h.sites
+    (subst (λ (t : Template). HaveRooms p.outline.value.sites [] t.clauses r.rooms.items) h.template rooms))
 
 -- ---- a list
 there : {X : Type 0} (xs : List X) (n : ℕ) (d : X) → n < length xs → slice_get xs n ≡ Some (get_or xs n d)

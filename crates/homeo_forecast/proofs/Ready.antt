@@ -21,10 +21,10 @@ use Rattle.homeo_plan.specs.Template.{PlannedCall}
 use Rattle.homeo_plan.specs.Treaty.{Treaty}
 use Rattle.homeo_plan.proofs.OwnWithin.{zero_keeps}
 use Rattle.homeo_plan.proofs.PlannedCalls.{planned_member}
+use Rattle.homeo_site.proofs.LocalSteps.{stays_within}
 use Rattle.homeo_forecast.specs.Forecast.{Serves}
 use Rattle.homeo_forecast.specs.Visits.{visit, after, after_all, visits_from, visits}
 use Rattle.homeo_forecast.proofs.Prefixes.{site_below}
-use Rattle.homeo_forecast.proofs.Running.{stays_within}
 
 -- what a site has: its treaty holds, and base plus deltas is within bounds
 pub record IsReadyAt (w : s.Workload) (base : List ℤ) (config : Config) (i : ℕ) (x : Deltas) : Type 0 where
@@ -64,7 +64,7 @@ module _
         here : IsReadyAt w base config g.site new
         here = record {
           meets = meets;
-          all = stays_within w base config g.site (d g.site) accepted within fits below (ready g.site below).meets (ready g.site below).all g (planned_member w call there) refl;
+          all = stays_within w base config g.site (d g.site) accepted fits below (ready g.site below).meets (ready g.site below).all g (planned_member w call there) refl;
         }
 
         go : (v : Bool) → (g.site == i) ≡ v → IsReadyAt w base config i (cond v new (d i))

@@ -15,9 +15,7 @@ use Rattle.homeo_plan.specs.Key.{definitions as plan_definitions}
 use Rattle.homeo_plan.specs.Joined.{Deltas}
 use Rattle.homeo_plan.specs.Local.{no_deltas}
 use Rattle.homeo_plan.specs.Planned.{sites_of, template_at, policy}
-use Rattle.homeo_plan.specs.PlanView.{plain_clause}
 use Rattle.homeo_plan.specs.Template.{Clause}
-use Rattle.homeo_plan.specs.declared.templates.Clause as code
 use Rattle.homeo_plan.proofs.Atoms.{append_each}
 use Rattle.homeo_plan.proofs.Policy.{policy_fits}
 use Rattle.homeo_forecast.specs.Forecast.{CanServe}
@@ -60,15 +58,11 @@ room_more k vs cs rs c r have has = record {
         subst (λ e. HasRoom k vs e (get_or (rs ++ r ∷ []) n q)) (sym one) (subst (HasRoom k vs c) (sym two) has)
 
 pub one_room :
-    (k : ℕ) (vs : List Visit) (cs : List code.Clause) (idx : ℕ) (c : code.Clause) (old new : List Room) (r : Room) → idx < length cs →
-    c ≡ get_or cs idx c → HaveRooms k vs (map plain_clause (take idx cs)) old → HasRoom k vs (plain_clause c) r → new ≡ old ++ r ∷ [] →
-    HaveRooms k vs (map plain_clause (take (idx + 1) cs)) new
-one_room k vs cs idx c old new r lt is have has e =
-    let clauses : map plain_clause (take (idx + 1) cs) ≡ map plain_clause (take idx cs) ++ plain_clause c ∷ [] =
-    ap (map plain_clause) (take_more cs idx c lt) ∙ map-append plain_clause (take idx cs) (get_or cs idx c ∷ [])
-    ∙ ap (λ (d : code.Clause). map plain_clause (take idx cs) ++ plain_clause d ∷ []) (sym is) in
-    subst (λ ds. HaveRooms k vs ds new) (sym clauses)
-    (subst (HaveRooms k vs (map plain_clause (take idx cs) ++ plain_clause c ∷ [])) (sym e) (room_more k vs (map plain_clause (take idx cs)) old (plain_clause c) r have has))
+    (k : ℕ) (vs : List Visit) (cs : List Clause) (idx : ℕ) (d : Clause) (old new : List Room) (r : Room) → idx < length cs →
+    HaveRooms k vs (take idx cs) old → HasRoom k vs (get_or cs idx d) r → new ≡ old ++ r ∷ [] → HaveRooms k vs (take (idx + 1) cs) new
+one_room k vs cs idx d old new r lt have has e =
+    subst (λ ds. HaveRooms k vs ds new) (sym (take_more cs idx d lt))
+    (subst (HaveRooms k vs (take idx cs ++ get_or cs idx d ∷ [])) (sym e) (room_more k vs (take idx cs) old (get_or cs idx d) r have has))
 
 -- ---- configurations
 config_append : (k : ℕ) (vs : List Visit) (cs : List Clause) (c : Clause) → peak_config k vs (cs ++ c ∷ []) ≡ peak_config k vs cs ++ peak_bounds k vs c ∷ []

@@ -2,15 +2,13 @@
 use Rattle.homeo_meaning.specs.Key.{definitions as meaning_definitions}
 use Rattle.homeo_plan.specs.Key.{definitions as plan_definitions}
 use Rattle.homeo_forecast.specs.Key.{definitions}
-use Rattle.std.proofs.Common.{◌≡◌, ℕ, zero, suc, ◌<◌, ◌^◌, Bool, true, false, cond, List, [], ◌∷◌, ◌++◌, length, ℤ, pos, int_lt, int_le, ◌+ℤ◌, ◌-ℤ◌, ◌≤ℤ◌, ◌<ℤ◌, Some, None, replicate, refl, sym, ap, ap₂, subst, ◌∙◌, arith, slice_index_or, FitsSigned, Global}
-use Rattle.std.specs.Prelude.{Vec}
+use Rattle.std.proofs.Common.{◌≡◌, ℕ, zero, suc, ◌<◌, ◌^◌, Bool, true, false, cond, List, [], ◌∷◌, ◌++◌, length, ℤ, pos, int_lt, int_le, ◌+ℤ◌, ◌-ℤ◌, ◌≤ℤ◌, ◌<ℤ◌, Some, None, replicate, refl, sym, ap, ap₂, subst, ◌∙◌, arith, slice_index_or, FitsSigned}
 use Rattle.std.proofs.Math.ListN.{set}
 use Rattle.std.specs.Int.{int_max, w128}
 use Rattle.std.specs.Int.RustNames.{unsigned_abs}
 use Rattle.std.proofs.lemmas.Int.{ints, fits_signed_from_abs}
 use Rattle.homeo_plan.specs.Template.{Clause}
 use Rattle.homeo_plan.specs.declared.forms.Term.{Term}
-use Rattle.homeo_plan.specs.Joined.{Deltas}
 use Rattle.homeo_plan.specs.Config.{total}
 use Rattle.homeo_plan.specs.Treaty.{site_sum}
 use Rattle.homeo_forecast.specs.Peaks.{Spent, peak, peaks_from, peaks, peak_bounds}
@@ -18,10 +16,8 @@ use Rattle.homeo_forecast.specs.Visits.{Visit}
 use Rattle.homeo_forecast.specs.declared.rooms.Room.{Room}
 use Rattle.homeo_forecast.specs.inner.Rooms.{HasRoom, IsOpen}
 use Rattle.homeo_forecast.specs.inner.Stops.{clause_stop}
-use Rattle.homeo_forecast.specs.inner.Sums.{own_at, AreOwnTerms, term_sum}
 use Rattle.homeo_forecast.proofs.Peaks.{max_left, peaks_count, peak_positive}
 use Rattle.homeo_forecast.proofs.Raised.{peaks_push, peak_own, peak_at, total_set}
-use Rattle.homeo_forecast.proofs.TermSums.{own_sum_is}
 
 at_most : (a b : ℤ) → a ≤ℤ b → int_le a b ≡ true
 at_most a b h = grind (arith, ints)
@@ -87,7 +83,7 @@ module _ (k : ℕ) (vs : List Visit) (c : Clause) (v : Visit) (site : ℕ) (sum 
       let same : peaks k (vs ++ v ∷ []) c ≡ r.peaks.items = raised ∙ ap (λ n. set r.peaks.items site n) (m ∙ sym (old_is d)) ∙ set_same r.peaks.items site d in
       let t = raised_total in
       let e = room.room_is in
-      record { own_are = room.own_are; slack_is = room.slack_is; peaks_are = sym same; room_is = omega (arith, ints); small = room.small }
+      record { slack_is = room.slack_is; peaks_are = sym same; room_is = omega (arith, ints); small = room.small }
 
   pub lower_fits : (d : ℤ) → sum ≤ℤ slice_index_or r.peaks.items site d → pos 0 ≤ℤ r.room → total (peaks k (vs ++ v ∷ []) c) ≤ℤ c.slack
   lower_fits d h low = let e = (lower d h).room_is in omega (arith, ints)
@@ -102,15 +98,14 @@ module _ (k : ℕ) (vs : List Visit) (c : Clause) (v : Visit) (site : ℕ) (sum 
       let e = room.room_is in
       omega (arith, ints)
 
-  pub higher : (d : ℤ) (q : Room) → slice_index_or r.peaks.items site d <ℤ sum → q.own.items ≡ r.own.items → q.slack ≡ r.slack → q.peaks.items ≡ set r.peaks.items site sum →
+  pub higher : (d : ℤ) (q : Room) → slice_index_or r.peaks.items site d <ℤ sum → q.slack ≡ r.slack → q.peaks.items ≡ set r.peaks.items site sum →
       q.room ≡ r.room -ℤ (sum -ℤ slice_index_or r.peaks.items site d) → HasRoom k (vs ++ v ∷ []) c q
-  higher d q h own slack are left =
+  higher d q h slack are left =
       let p = old_is d in
       let below : slice_index_or r.peaks.items site d ≤ℤ sum = omega (arith, ints) in
       let m : int_max sum (peak c.terms site vs) ≡ sum = max_high sum (peak c.terms site vs) (subst (λ z. z ≤ℤ sum) p below) in
       let t = higher_total d h in
       record {
-        own_are = subst (AreOwnTerms k c.terms) (sym own) room.own_are;
         slack_is = slack ∙ room.slack_is;
         peaks_are = are ∙ ap (λ n. set r.peaks.items site n) (sym m) ∙ sym raised;
         room_is = omega (arith, ints);
@@ -146,13 +141,6 @@ module _ (k : ℕ) (vs : List Visit) (c : Clause) (v : Visit) (site : ℕ) (sum 
       ap₂ (λ l z. Some (Spent n l z)) (are ∙ sym (over_peaks over low)) (is_slack ∙ room.slack_is)
       ∙ sym (ap (λ b. cond b None (Some (Spent n (peaks k (vs ++ v ∷ []) c) c.slack))) (not_at_most (total (peaks k (vs ++ v ∷ []) c)) c.slack over))
 
--- ---- a site's sum
-pub sum_at :
-    (k : ℕ) (ts : List Term) (own : List (Vec Term Global)) (site : ℕ) (x y : Deltas) → AreOwnTerms k ts own → site < k → y ≡ x →
-    term_sum (own_at own site) x ≡ site_sum site ts y
-sum_at k ts own site x y are lt same =
-    ap (λ us. term_sum us x) (are.each site lt) ∙ own_sum_is site ts x ∙ ap (site_sum site ts) (sym same)
-
 -- ---- no visit
 zero_peaks : (ts : List Term) (i k : ℕ) → replicate k (pos 0) ≡ peaks_from ts [] i k
 unfolding plan_definitions
@@ -164,13 +152,13 @@ unfolding plan_definitions
 zero_total zero = refl
 zero_total (suc k) = let rest = zero_total k in omega (arith, ints)
 
-pub new_room : (k : ℕ) (c : Clause) (r : Room) → AreOwnTerms k c.terms r.own.items → r.slack ≡ c.slack → r.peaks.items ≡ replicate k (pos 0) → r.room ≡ c.slack →
+pub new_room : (k : ℕ) (c : Clause) (r : Room) → r.slack ≡ c.slack → r.peaks.items ≡ replicate k (pos 0) → r.room ≡ c.slack →
     c.slack <ℤ pos (2 ^ 127) → HasRoom k [] c r
 unfolding plan_definitions
-new_room k c r own slack are is_slack small =
+new_room k c r slack are is_slack small =
     let same = zero_peaks c.terms 0 k in
     let none = ap total (sym same) ∙ zero_total k in
-    record { own_are = own; slack_is = slack; peaks_are = are ∙ same; room_is = omega (arith, ints, none, is_slack); small = small }
+    record { slack_is = slack; peaks_are = are ∙ same; room_is = omega (arith, ints, none, is_slack); small = small }
 
 -- ---- bounds
 pub bounds_are :
@@ -204,7 +192,6 @@ unfolding plan_definitions
 is_open k vs c site r room fit lt =
     let left = room.room_is in
     record {
-      own = subst (λ n. site < n) (sym room.own_are.count) lt;
       there = subst (λ n. site < n) (sym (ap length room.peaks_are ∙ peaks_count c.terms vs 0 k)) lt;
       low =
           subst (λ z. pos 0 ≤ℤ z)

@@ -1,29 +1,30 @@
 //! How far a list of calls goes.
 
-ghost use Rattle.std.specs.Prelude.{◌≡◌, option_map, IfOk};
+ghost use Rattle.std.specs.Prelude.{option_map, IfOk};
 ghost use Rattle.homeo_syntax.specs.SourceView.{plain_workload};
+ghost use Rattle.homeo_meaning.specs.Acceptance.{IsAccepted};
 ghost use Rattle.homeo_meaning.specs.Bounds.{IsWithin};
 ghost use Rattle.homeo_meaning.specs.Calls.{CallExists};
 ghost use Rattle.homeo_meaning.specs.Schema.{schema_of};
 ghost use Rattle.homeo_plan.specs.Each.{Each};
 ghost use Rattle.homeo_plan.specs.PlanView.{plain_config};
+ghost use Rattle.homeo_build.specs.Plan.{IsObjectPlan};
 ghost use Rattle.homeo_forecast.specs.Forecast.{IsForecast};
 ghost use Rattle.homeo_forecast.specs.View.{plain_stop};
-ghost use Rattle.homeo_forecast.specs.inner.Prepared.{IsPrepared};
 
 use crate::outlook::Outlook;
-use crate::own_calls::OwnCalls;
-use crate::prepared::Prepared;
 use crate::replay::Replay;
 use homeo_build::Compiled;
+use homeo_build::treaties::plan_at;
 use homeo_meaning::{CallId, Database};
+use homeo_outline::ObjectPlan;
 use homeo_syntax::Memory;
 use std::alloc::Global;
 
 /// How far a list of calls goes from a base without a cleanup, by the configuration that serves it best: the length of the
 /// longest prefix that some fitting configuration serves, each call replayed at its own site, with one that serves it, and what
-/// stops the next call (this project's rule). It takes time in proportion to the calls and to the clauses and freezes that they
-/// touch.
+/// stops the next call (this project's rule). Each call takes time in proportion to its L form, to the objects, and to the clauses
+/// and freezes that stand on what it writes.
 ///
 /// Each call must be one of the workload, and the base must be within its bounds.
 ///
@@ -41,26 +42,28 @@ pub fn forecast(
     ensures { IfOk result (λ o. IsForecast (plain_workload c.now) base.now.items calls.now o.kept (plain_config o.config)
         (option_map plain_stop o.stop)) }
 {
-    let prepared = Prepared::at(alloc, c, base)?;
-    forecast_on(alloc, c, &prepared, calls)
+    // its rules hold
+    let _workload = c.workload().workload();
+    let plan = plan_at(alloc, c, base)?;
+    forecast_on(alloc, c, &plan, calls)
 }
 
-/// How far a list of calls goes from the base that is prepared.
+/// How far a list of calls goes from the base of a plan.
 fn forecast_on(
     alloc: Global,
     c: &Compiled,
-    prepared: &Prepared,
+    plan: &ObjectPlan,
     calls: &[CallId],
 ) -> Result<Outlook, Memory>
+    requires accepted { IsAccepted (plain_workload c.now) }
     requires exist { Each (λ call. CallExists (plain_workload c.now) call) calls.now }
-    requires prepared { IsPrepared (plain_workload c.now) prepared.now.plan.value.base.items prepared.now }
-    ensures { IfOk result (λ o. IsForecast (plain_workload c.now) prepared.now.plan.value.base.items calls.now o.kept
+    requires plan { IsObjectPlan (plain_workload c.now) plan.now.base.items plan.now }
+    ensures { IfOk result (λ o. IsForecast (plain_workload c.now) plan.now.base.items calls.now o.kept
         (plain_config o.config) (option_map plain_stop o.stop)) }
 {
-    let mut own_calls = OwnCalls::new(alloc, c)?;
-    let mut replay = Replay::begin(alloc, prepared)?;
+    let mut replay = Replay::begin(alloc, plan)?;
     for (kept, call) in calls.iter().enumerate() {
-        let stop = replay.call(alloc, c, prepared, &mut own_calls, *call)?;
+        let stop = replay.call(alloc, c, plan, *call)?;
         if stop.is_some() {
             let config = replay.config(alloc)?;
             return Ok(Outlook {

@@ -1,79 +1,42 @@
 //! Calls, replayed one after another.
 
-ghost use Rattle.std.specs.Prelude.{◌≡◌, ◌+◌, ◌<◌, ◌≤◌, ◌^◌, ◌++◌, ◌∷◌, [], ℕ, ℤ, List, All, Some, None, IsSome, true, length, map, pos, replicate, option_map, IfOk, OnOk, OnErr};
+ghost use Rattle.std.specs.Prelude.{◌≡◌, ◌<◌, ◌++◌, ◌∷◌, [], ℕ, List, IsSome, None, length, map, pos, replicate, option_map, IfOk, slice_set};
 ghost use Rattle.homeo_syntax.specs.SourceView.{plain_workload};
+ghost use Rattle.homeo_meaning.specs.Acceptance.{IsAccepted};
 ghost use Rattle.homeo_meaning.specs.Calls.{CallExists};
-ghost use Rattle.homeo_meaning.specs.Serial.{values_of};
 ghost use Rattle.homeo_meaning.specs.declared.call.CallId.{CallId};
-ghost use Rattle.homeo_plan.specs.Each.{Each};
-ghost use Rattle.homeo_plan.specs.PlanView.{plain_clause, plain_config, plain_template};
-ghost use Rattle.homeo_plan.specs.Planned.{sites_of, template_at};
+ghost use Rattle.homeo_plan.specs.PlanView.{plain_config};
+ghost use Rattle.homeo_plan.specs.Planned.{sites_of, planned_at, template_at};
 ghost use Rattle.homeo_plan.specs.Template.{Clause as PlainClause};
-ghost use Rattle.homeo_forecast.specs.inner.OwnCalls.{AreOwnCalls};
+ghost use Rattle.homeo_build.specs.Plan.{IsObjectPlan};
 ghost use Rattle.homeo_forecast.specs.Peaks.{first_stop, peak_config};
 ghost use Rattle.homeo_forecast.specs.View.{plain_stop};
 ghost use Rattle.homeo_forecast.specs.Visits.{Visit, visits, next_visit};
-ghost use Rattle.homeo_forecast.specs.inner.Prepared.{IsPrepared};
-ghost use Rattle.homeo_forecast.specs.inner.Replays.{IsReplay, IsSomeReplay, CanBound};
-ghost use Rattle.homeo_forecast.specs.inner.Raising.{CanTest, AreSums};
-ghost use Rattle.homeo_forecast.specs.inner.Rooms.{HaveRooms};
-ghost use Rattle.homeo_forecast.specs.inner.Stops.{first_of, first_among, clause_stop_at, freeze_stop_at};
+ghost use Rattle.homeo_forecast.specs.inner.Replays.{IsReplay, IsSomeReplay, IsStep, CanBound};
+ghost use Rattle.homeo_forecast.specs.inner.Rooms.{AreRooms, HaveRooms};
 
 use crate::outlook::Stop;
-use crate::own_calls::OwnCalls;
-use crate::prepared::Prepared;
 use crate::raising::raise_all;
 use crate::rooms::Room;
-use crate::scratch::Scratch;
-use crate::stops::{first_frozen, first_spent};
+use crate::stops::first_stop;
 use homeo_build::Compiled;
-use homeo_meaning::CallId;
-use homeo_plan::{Clause, Config, Template};
+use homeo_local::{LocalStep, local_step};
+use homeo_meaning::padded::item_or;
+use homeo_meaning::{CallId, Database};
+use homeo_outline::ObjectPlan;
+use homeo_plan::Config;
 use homeo_syntax::Memory;
 use std::alloc::Global;
 
-/// What calls have left so far: the deltas of each site, and the room in each clause; and where calls run and
-/// their sums stand.
+/// What calls have left so far: the deltas of each site, and the room in each clause.
 #[derive(Drop)]
 pub(crate) struct Replay {
-    pub(crate) deltas: Vec<Vec<i64>>,
+    pub(crate) deltas: Vec<Database>,
     pub(crate) rooms: Vec<Room>,
-    pub(crate) scratch: Scratch,
-    pub(crate) sums: Vec<i128>,
-}
-
-/// The first stop among the clauses and freezes of these numbers. Where there is none, `sums` are left as the site's sums in these
-/// clauses.
-fn first_stop(
-    alloc: Global,
-    template: &Template,
-    rooms: &[Room],
-    clauses: &[u32],
-    freezes: &[u32],
-    site: u32,
-    deltas: &[i64],
-    sums: &mut Vec<i128>,
-) -> Result<Option<Stop>, Memory>
-    requires clauses { All (λ n. n < length rooms.now) clauses.now }
-    requires freezes { let t = template.now in All (λ n. (length t.clauses.items ≤ n) × (n < length t.clauses.items + length t.freezes.items)) freezes.now }
-    requires can { CanTest rooms.now site deltas.now }
-    ensures stop { (k : ℕ) (vs : List Visit) (v : Visit) → HaveRooms k vs (plain_template template.now).clauses rooms.now → v.site ≡ site → site < k →
-        v.deltas ≡ values_of deltas.now → let t = plain_template template.now in IfOk result (λ o. option_map plain_stop o ≡
-        first_of (first_among (clause_stop_at k (vs ++ v ∷ []) t.clauses) clauses.now)
-        (first_among (freeze_stop_at (length t.clauses) site (values_of deltas.now) t.freezes) freezes.now)) }
-    ensures sums { IfOk result (λ o. o ≡ None → AreSums rooms.now site deltas.now clauses.now sums.new.items) }
-{
-    let stop = first_spent(alloc, rooms, clauses, site, deltas, sums)?;
-    if stop.is_some() {
-        return Ok(stop);
-    }
-    let all = template.clauses.as_slice();
-    let first = all.len();
-    Ok(first_frozen(template.freezes.as_slice(), first, freezes, site, deltas))
 }
 
 /// A 0 for each object, for each site.
-fn no_deltas(alloc: Global, sites: u32, objects: usize) -> Result<Vec<Vec<i64>>, Memory>
+fn no_deltas(alloc: Global, sites: u32, objects: usize) -> Result<Vec<Database>, Memory>
     ensures { IfOk result (λ ds. map (λ d. d.items) ds.items ≡ replicate sites (replicate objects (pos 0))) }
 {
     let mut deltas = Vec::new(alloc);
@@ -83,19 +46,20 @@ fn no_deltas(alloc: Global, sites: u32, objects: usize) -> Result<Vec<Vec<i64>>,
     Ok(deltas)
 }
 
-fn zeros(alloc: Global, count: usize) -> Result<Vec<i64>, Memory>
+fn zeros(alloc: Global, count: usize) -> Result<Database, Memory>
     ensures { IfOk result (λ z. z.items ≡ replicate count (pos 0)) }
 {
-    Ok(vec![in alloc; 0; count]?)
+    Ok(homeo_syntax::List::from_vec(vec![in alloc; 0; count]?))
 }
 
-/// A room for each clause, where no site has made a call.
-fn new_rooms(alloc: Global, sites: u32, clauses: &[Clause]) -> Result<Vec<Room>, Memory>
-    ensures { IfOk result (λ rs. HaveRooms sites [] (map plain_clause clauses.now) rs.items) }
+/// A room for each clause of a plan, where no site has made a call.
+fn new_rooms(alloc: Global, plan: &ObjectPlan) -> Result<Vec<Room>, Memory>
+    ensures { IfOk result (λ rs. AreRooms plan.now [] rs.items) }
 {
     let mut rooms = Vec::new(alloc);
-    for clause in clauses {
-        rooms.push(Room::new(alloc, sites, clause)?)?;
+    for clause in 0..plan.outline.terms().len() {
+        let slack = item_or(plan.slacks.as_slice(), clause, 0);
+        rooms.push(Room::new(alloc, plan.outline.sites(), slack)?)?;
     }
     Ok(rooms)
 }
@@ -112,71 +76,87 @@ fn config_of(alloc: Global, rooms: &[Room]) -> Result<Config, Memory>
     Ok(Config { bounds })
 }
 
+/// The site of a call of the workload.
+fn site_of(c: &Compiled, call: CallId) -> u32
+    requires { CallExists (plain_workload c.now) call }
+    ensures { result ≡ (planned_at (plain_workload c.now) call).site }
+{
+    let place = c.place(call) as usize;
+    c.calls()[place].site
+}
+
+/// Puts deltas in the place of those of a site.
+fn put(deltas: &mut Vec<Database>, site: usize, new: Database)
+    requires { site < length deltas.old.items }
+    ensures { deltas.new.items ≡ slice_set deltas.old.items site new }
+{
+    deltas[site] = new;
+}
+
 impl Replay {
-    /// Before any call, at the base of what is prepared.
-    pub(crate) fn begin(alloc: Global, prepared: &Prepared) -> Result<Replay, Memory>
+    /// Before any call, at the base of a plan.
+    pub(crate) fn begin(alloc: Global, plan: &ObjectPlan) -> Result<Replay, Memory>
         ensures deltas { IfOk result (λ r. map (λ d. d.items) r.deltas.items ≡
-            replicate prepared.now.template.sites (replicate (length prepared.now.plan.value.base.items) (pos 0))) }
-        ensures rooms { IfOk result (λ r. HaveRooms prepared.now.template.sites [] (plain_template prepared.now.template).clauses r.rooms.items) }
+            replicate plan.now.outline.value.sites (replicate (length plan.now.base.items) (pos 0))) }
+        ensures rooms { IfOk result (λ r. AreRooms plan.now [] r.rooms.items) }
     {
-        let template = &prepared.template;
-        let objects = prepared.plan.base.as_slice().len();
-        let deltas = no_deltas(alloc, template.sites, objects)?;
-        let rooms = new_rooms(alloc, template.sites, template.clauses.as_slice())?;
-        Ok(Replay {
-            deltas,
-            rooms,
-            scratch: Scratch::new(alloc),
-            sums: Vec::new(alloc),
-        })
+        let objects = plan.base.as_slice().len();
+        let deltas = no_deltas(alloc, plan.outline.sites(), objects)?;
+        let rooms = new_rooms(alloc, plan)?;
+        Ok(Replay { deltas, rooms })
     }
 
-    /// Makes one call more, unless something stops it: this is then answered, and the rooms stay as they were.
+    /// The local step of a call, whose site has this number, from what its site has so far.
+    fn step(
+        &self,
+        alloc: Global,
+        c: &Compiled,
+        plan: &ObjectPlan,
+        call: CallId,
+        site: u32,
+    ) -> Result<LocalStep, Memory>
+        requires accepted { IsAccepted (plain_workload c.now) }
+        requires plan { IsObjectPlan (plain_workload c.now) plan.now.base.items plan.now }
+        requires exists { CallExists (plain_workload c.now) call }
+        requires site { site ≡ (planned_at (plain_workload c.now) call).site }
+        requires replay { IsSomeReplay (plain_workload c.now) plan.now.base.items self.now }
+        ensures { (before : List CallId) → let w = plain_workload c.now in let base = plan.now.base.items in
+            IsReplay w base before self.now → IfOk result (λ s. IsStep w base before call s.deltas.items s.written.items) }
+    {
+        let place = c.place(call) as usize;
+        let deltas = self.deltas[site as usize].as_slice();
+        local_step(alloc, c.form(place), plan.base.as_slice(), deltas)
+    }
+
+    /// Makes one call more, unless something stops it: this is then answered, and nothing is changed.
     pub(crate) fn call(
         &mut self,
         alloc: Global,
         c: &Compiled,
-        prepared: &Prepared,
-        own_calls: &mut OwnCalls,
+        plan: &ObjectPlan,
         call: CallId,
     ) -> Result<Option<Stop>, Memory>
-        requires prepared { IsPrepared (plain_workload c.now) prepared.now.plan.value.base.items prepared.now }
+        requires accepted { IsAccepted (plain_workload c.now) }
+        requires plan { IsObjectPlan (plain_workload c.now) plan.now.base.items plan.now }
         requires exists { CallExists (plain_workload c.now) call }
-        requires replay { IsSomeReplay (plain_workload c.now) prepared.now.plan.value.base.items self.old }
-        requires made { AreOwnCalls (plain_workload c.now) prepared.now.plan.value.base.items own_calls.old }
-        ensures made { OnOk result (AreOwnCalls (plain_workload c.now) prepared.now.plan.value.base.items own_calls.new) }
-        ensures kept { (before : List CallId) → let w = plain_workload c.now in let base = prepared.now.plan.value.base.items in
+        requires replay { IsSomeReplay (plain_workload c.now) plan.now.base.items self.old }
+        ensures kept { (before : List CallId) → let w = plain_workload c.now in let base = plan.now.base.items in
             IsReplay w base before self.old → IfOk result (λ o. o ≡ None → IsReplay w base (before ++ call ∷ []) self.new) }
-        ensures stop { (before : List CallId) → let w = plain_workload c.now in let base = prepared.now.plan.value.base.items in
+        ensures stop { (before : List CallId) → let w = plain_workload c.now in let base = plan.now.base.items in
             IsReplay w base before self.old → IfOk result (λ o. option_map plain_stop o ≡
             first_stop (sites_of w) (template_at w base) (visits w base before) (next_visit w base before call)) }
-        ensures rooms { IfOk result (λ o. IsSome o → self.new.rooms ≡ self.old.rooms) }
+        ensures unchanged { IfOk result (λ o. IsSome o → self.new ≡ self.old) }
     {
-        let index = prepared.index(c, call);
-        let made = own_calls.get(alloc, c, &prepared.plan.base, index, call)?;
-        let own = &*made;
-        let site = own.program.site;
-        let deltas = &mut self.deltas[site as usize];
-        self.scratch.run(alloc, &own.program, deltas)?;
-        let stop = first_stop(
-            alloc,
-            &prepared.template,
-            self.rooms.as_slice(),
-            own.clauses.as_slice(),
-            own.freezes.as_slice(),
-            site,
-            deltas.as_slice(),
-            &mut self.sums,
-        )?;
+        let site = site_of(c, call);
+        let step = self.step(alloc, c, plan, call, site)?;
+        let written = step.written.as_slice();
+        let deltas = step.deltas.as_slice();
+        let stop = first_stop(alloc, plan, self.rooms.as_slice(), written, site, deltas)?;
         if stop.is_some() {
             return Ok(stop);
         }
-        raise_all(
-            self.rooms.as_mut_slice(),
-            own.clauses.as_slice(),
-            self.sums.as_slice(),
-            site,
-        );
+        raise_all(self.rooms.as_mut_slice(), plan, written, site, deltas);
+        put(&mut self.deltas, site as usize, step.deltas);
         Ok(None)
     }
 

@@ -1,10 +1,8 @@
-//! Each site's own terms of the clauses, the peaks of the sites, and what the slacks leave above them.
+//! The peaks of the sites in the clauses, and what the slacks leave above them.
 
 ghost use Rattle.std.specs.Prelude.{◌≡◌, ◌<◌, ◌-ℤ◌, ◌+ℤ◌, ◌≤ℤ◌, ◌<ℤ◌, ◌++◌, slice_set, ◌∷◌, [], ℕ, ℤ, List, pos, length, true, false, slice_index_or, option_map, replicate, IfOk, FitsSigned};
 ghost use Rattle.std.specs.Int.{w128};
-ghost use Rattle.homeo_meaning.specs.Serial.{values_of};
 ghost use Rattle.homeo_plan.specs.Config.{total};
-ghost use Rattle.homeo_plan.specs.PlanView.{plain_clause};
 ghost use Rattle.homeo_plan.specs.Template.{Clause as PlainClause};
 ghost use Rattle.homeo_plan.specs.Treaty.{site_sum};
 ghost use Rattle.homeo_forecast.specs.Peaks.{Spent, peaks, peak_bounds};
@@ -12,19 +10,14 @@ ghost use Rattle.homeo_forecast.specs.Visits.{Visit};
 ghost use Rattle.homeo_forecast.specs.View.{plain_stop};
 ghost use Rattle.homeo_forecast.specs.inner.Rooms.{HasRoom, IsOpen};
 ghost use Rattle.homeo_forecast.specs.inner.Stops.{clause_stop};
-ghost use Rattle.homeo_forecast.specs.inner.Sums.{own_at, term_sum, CanSum};
 
 use crate::outlook::Stop;
-use crate::sums::{own_terms, term_sum};
-use homeo_plan::{Clause, Term};
 use homeo_syntax::Memory;
 use std::alloc::Global;
 
-/// What is kept of a clause: the terms on the deltas of each site, the slack, the peaks of the sites, and what the slack leaves
-/// above them.
+/// What is kept of a clause: the slack, the peaks of the sites, and what the slack leaves above them.
 #[derive(Drop)]
 pub(crate) struct Room {
-    pub(crate) own: Vec<Vec<Term>>,
     pub(crate) slack: i128,
     pub(crate) peaks: Vec<i128>,
     pub(crate) room: i128,
@@ -110,27 +103,16 @@ impl Room {
         put(&mut self.peaks, site, sum);
     }
 
-    /// Of a clause, where no site has made a call.
-    pub(crate) fn new(alloc: Global, sites: u32, clause: &Clause) -> Result<Room, Memory>
-        ensures { IfOk result (HasRoom sites [] (plain_clause clause.now)) }
+    /// Of a clause with this slack, where no site has made a call.
+    pub(crate) fn new(alloc: Global, sites: u32, slack: i128) -> Result<Room, Memory>
+        ensures { (c : PlainClause) → c.slack ≡ slack → IfOk result (HasRoom sites [] c) }
     {
-        let own = own_terms(alloc, sites, clause.terms.as_slice())?;
         let peaks = zeros(alloc, sites as usize)?;
         Ok(Room {
-            own,
-            slack: clause.slack,
+            slack,
             peaks,
-            room: clause.slack,
+            room: slack,
         })
-    }
-
-    /// A site's sum over its deltas.
-    pub(crate) fn sum(&self, site: usize, deltas: &[i64]) -> i128
-        requires site { site < length self.now.own.items }
-        requires fits { CanSum (own_at self.now.own.items site) (values_of deltas.now) }
-        ensures { result ≡ term_sum (own_at self.now.own.items site) (values_of deltas.now) }
-    {
-        term_sum(self.own[site].as_slice(), deltas)
     }
 
     /// What stops a call after which a site has this sum in the clause of this number.

@@ -13,15 +13,12 @@ use Rattle.homeo_outline.specs.Leaders.{IsLed, Lead}
 use Rattle.homeo_outline.specs.Numbers.{has, clauses_on}
 use Rattle.homeo_outline.specs.ObjectPlan.{clauses_with}
 use Rattle.homeo_outline.specs.inner.Moved.{slack_at, moved_slack}
+use Rattle.homeo_outline.proofs.Numbers.{or_true}
 use Rattle.homeo_outline.proofs.Slacks.{clause_count, clause_read}
 
 -- ---- numbers in a list
 or_left : (a b : Bool) → a ≡ true → (a || b) ≡ true
 or_left a b e = ap (λ v. v || b) e
-
-or_right : (a b : Bool) → b ≡ true → (a || b) ≡ true
-or_right true b e = refl
-or_right false b e = e
 
 same_number : (n : ℕ) → (n == n) ≡ true
 same_number n = grind (arith, nat_tests)
@@ -40,7 +37,7 @@ pub has_before : (l v : ℕ) (ms : List ℕ) → has l ms ≡ true → has l (ms
 has_before l v ms h = list_any-append (λ m. l == m) ms (v ∷ []) ∙ or_left (has l ms) _ h
 
 pub has_last : (v : ℕ) (ms : List ℕ) → has v (ms ++ v ∷ []) ≡ true
-has_last v ms = list_any-append (λ m. v == m) ms (v ∷ []) ∙ or_right (has v ms) _ (or_left (v == v) false (same_number v))
+has_last v ms = list_any-append (λ m. v == m) ms (v ∷ []) ∙ or_true (has v ms) _ (or_left (v == v) false (same_number v))
 
 -- in the place of another
 pub has_still : (l : ℕ) (ms : List ℕ) (k v : ℕ) → has l ms ≡ true → (l ≡ get_or ms k 0) ⊎ (has l (set ms k v) ≡ true)
@@ -49,7 +46,7 @@ has_still l (m ∷ ms) zero v h = go (l == m) refl h
   where
     go : (b : Bool) → (l == m) ≡ b → (b || has l ms) ≡ true → (l ≡ m) ⊎ (((l == v) || has l ms) ≡ true)
     go true e q = inl (grind (arith, nat_tests))
-    go false e q = inr (or_right (l == v) (has l ms) q)
+    go false e q = inr (or_true (l == v) (has l ms) q)
 has_still l (m ∷ ms) (suc k) v h = go (l == m) (has_still l ms k v) h
   where
     go :
@@ -61,7 +58,7 @@ has_still l (m ∷ ms) (suc k) v h = go (l == m) (has_still l ms k v) h
 pub has_put : (ms : List ℕ) (k v : ℕ) → k < length ms → has v (set ms k v) ≡ true
 has_put [] k v lt = absurd (omega (arith, lt))
 has_put (m ∷ ms) zero v lt = or_left (v == v) (has v ms) (same_number v)
-has_put (m ∷ ms) (suc k) v lt = or_right (v == m) (has v (set ms k v)) (has_put ms k v (omega (arith, lt)))
+has_put (m ∷ ms) (suc k) v lt = or_true (v == m) (has v (set ms k v)) (has_put ms k v (omega (arith, lt)))
 
 -- ---- numbers
 same_at_most : (a : ℤ) → a ≤ℤ a

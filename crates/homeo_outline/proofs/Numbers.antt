@@ -75,7 +75,7 @@ pub has_number : {X : Type 0} (test : X → Bool) (m : ℕ) (xs : List X) (d : X
 has_number test m xs d h = let e : m ≡ 0 + m = omega arith in ap (λ n. has n (numbers_where test 0 xs)) e ∙ numbered test 0 m xs d h
 
 -- ---- the first numbers of a list
-or_true : (a b : Bool) → b ≡ true → (a || b) ≡ true
+pub or_true : (a b : Bool) → b ≡ true → (a || b) ≡ true
 or_true true b e = refl
 or_true false b e = e
 

@@ -4,6 +4,5 @@ pub mod Example
 pub mod Lists
 pub mod LocalExample
 pub mod ObjectExample
-pub mod ResidualExample
 pub mod SlackExample
 pub mod SplitExample

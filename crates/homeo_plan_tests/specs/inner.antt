@@ -3,6 +3,5 @@ pub mod CallExample
 pub mod Example
 pub mod Object
 pub mod ObjectExample
-pub mod ResidualExample
 pub mod SlackExample
 pub mod SplitExample

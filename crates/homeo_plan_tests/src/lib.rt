@@ -6,8 +6,6 @@ mod calls;
 #[cfg(test)]
 mod copies;
 #[cfg(test)]
-mod effects;
-#[cfg(test)]
 mod evaluation;
 #[cfg(test)]
 mod formulas;
@@ -20,9 +18,9 @@ mod numbering;
 #[cfg(test)]
 mod object;
 #[cfg(test)]
-mod printing;
+mod outlines;
 #[cfg(test)]
-mod residual;
+mod printing;
 #[cfg(test)]
 mod rounds;
 #[cfg(test)]

@@ -6,7 +6,7 @@ ghost use Rattle.homeo_meaning.specs.Small.{IsSmall};
 ghost use Rattle.homeo_plan.specs.Limit.{form_limit};
 ghost use Rattle.homeo_plan_tests.specs.inner.AtomExample.{AreSmall};
 
-use crate::residual::outline;
+use crate::outlines::outline;
 use crate::same::{same, same_items};
 use homeo_outline::{rebased_slacks, whole_template};
 use homeo_plan::{Atom, AtomSet, Clause, Delta, FreezeSet, Linear, Term};

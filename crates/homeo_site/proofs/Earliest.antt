@@ -1,79 +1,133 @@
--- What fails earliest, of one number, of two kinds of numbers, and of more numbers.
-use Rattle.std.proofs.Common.{◌≡◌, ◌⊎◌, ℕ, ◌<◌, Bool, true, false, cond, nat_lt, Option, Some, None, refl, sym, ap, ◌∙◌, inl, inr, ⊎_elim, arith}
+-- What is earliest, of one number, of two kinds of numbers, of more numbers, and of the numbers of a list.
+use Rattle.std.proofs.Common.{◌≡◌, ◌⊎◌, ℕ, suc, ◌+◌, ◌<◌, ◌≤◌, Bool, true, false, cond, nat_lt, List, length, get_or, take, Option, Some, None, refl, sym, ap, ◌∙◌, subst, inl, inr, ⊎_elim, arith}
 use Rattle.std.proofs.lemmas.Bool.Decides.{nat_tests}
-use Rattle.homeo_plan.specs.declared.treaty.Broken.{Broken}
+use Rattle.std.proofs.lemmas.List.{take_all}
+use Rattle.homeo_outline.specs.Numbers.{has}
+use Rattle.homeo_site.specs.Earliest.{IsEarliest, earlier}
 use Rattle.homeo_site.specs.Key.{definitions}
-use Rattle.homeo_site.specs.inner.Earliest.{IsEarliest, earlier}
+use Rattle.homeo_outline.proofs.Numbers.{more_numbers}
 
-module _ (failure : ℕ → Option Broken) where
+module _ {X : Type 0} (number : X → ℕ) (at : ℕ → Option X) where
   -- no number was looked at
-  pub none_looked : (Looked : ℕ → Type 0) → ((n : ℕ) → Looked n → ⊥) → IsEarliest failure Looked None
+  pub none_looked : (Looked : ℕ → Type 0) → ((n : ℕ) → Looked n → ⊥) → IsEarliest number at Looked None
   unfolding definitions
   none_looked Looked none = λ n h. absurd (none n h)
 
-  -- one was, where what fails has its number
+  -- one was, where what is there has its number
   pub one_looked :
-      (n : ℕ) (o : Option Broken) → ((b : Broken) → o ≡ Some b → b.clause ≡ n) → o ≡ failure n → IsEarliest failure (λ m. m ≡ n) o
+      (n : ℕ) (o : Option X) → ((x : X) → o ≡ Some x → number x ≡ n) → o ≡ at n → IsEarliest number at (λ m. m ≡ n) o
   unfolding definitions
-  one_looked n None named is = λ m same. ap failure same ∙ sym is
-  one_looked n (Some b) named is =
-      let at : b.clause ≡ n = named b refl in
-      record { looked = at; fails = ap failure at ∙ sym is; lower = λ m lt same. absurd (omega (arith, lt, same, at)) }
+  one_looked n None numbered is = λ m same. ap at same ∙ sym is
+  one_looked n (Some x) numbered is =
+      let here : number x ≡ n = numbered x refl in
+      record { looked = here; there = ap at here ∙ sym is; lower = λ m lt same. absurd (omega (arith, lt, same, here)) }
 
   -- those of both kinds were
   pub both_looked :
-      (P Q : ℕ → Type 0) (a b : Option Broken) → IsEarliest failure P a → IsEarliest failure Q b →
-      IsEarliest failure (λ n. P n ⊎ Q n) (earlier a b)
+      (P Q : ℕ → Type 0) (a b : Option X) → IsEarliest number at P a → IsEarliest number at Q b →
+      IsEarliest number at (λ n. P n ⊎ Q n) (earlier number a b)
   unfolding definitions
   both_looked P Q None None h g = λ n l. ⊎_elim (h n) (g n) l
   both_looked P Q None (Some b) h g =
-      record { looked = inr g.looked; fails = g.fails; lower = λ n lt l. ⊎_elim (h n) (g.lower n lt) l }
+      record { looked = inr g.looked; there = g.there; lower = λ n lt l. ⊎_elim (h n) (g.lower n lt) l }
   both_looked P Q (Some a) None h g =
-      record { looked = inl h.looked; fails = h.fails; lower = λ n lt l. ⊎_elim (h.lower n lt) (g n) l }
-  both_looked P Q (Some a) (Some b) h g = go (nat_lt b.clause a.clause) refl
+      record { looked = inl h.looked; there = h.there; lower = λ n lt l. ⊎_elim (h.lower n lt) (g n) l }
+  both_looked P Q (Some a) (Some b) h g = go (nat_lt (number b) (number a)) refl
     where
-      go : (v : Bool) → nat_lt b.clause a.clause ≡ v → IsEarliest failure (λ n. P n ⊎ Q n) (cond v (Some b) (Some a))
+      go : (v : Bool) → nat_lt (number b) (number a) ≡ v → IsEarliest number at (λ n. P n ⊎ Q n) (cond v (Some b) (Some a))
       go true e =
-          let less : b.clause < a.clause = grind (arith, nat_tests, e) in
-          record { looked = inr g.looked; fails = g.fails; lower = λ n lt l. ⊎_elim (h.lower n (omega (arith, lt, less))) (g.lower n lt) l }
+          let less : number b < number a = grind (arith, nat_tests, e) in
+          record { looked = inr g.looked; there = g.there; lower = λ n lt l. ⊎_elim (h.lower n (omega (arith, lt, less))) (g.lower n lt) l }
       go false e =
-          let most : b.clause < a.clause → ⊥ = λ less. grind (arith, nat_tests, e, less) in
-          record { looked = inl h.looked; fails = h.fails; lower = λ n lt l. ⊎_elim (h.lower n lt) (g.lower n (omega (arith, lt, most))) l }
+          let most : number b < number a → ⊥ = λ less. grind (arith, nat_tests, e, less) in
+          record { looked = inl h.looked; there = h.there; lower = λ n lt l. ⊎_elim (h.lower n lt) (g.lower n (omega (arith, lt, most))) l }
 
-  -- others were, of which nothing fails that wasn't looked at before
+  -- others were, at which nothing is that wasn't looked at before
   pub more_looked :
-      (P Q : ℕ → Type 0) (o : Option Broken) → ((n : ℕ) → P n → Q n) → ((n : ℕ) → Q n → P n ⊎ (failure n ≡ None)) →
-      IsEarliest failure P o → IsEarliest failure Q o
+      (P Q : ℕ → Type 0) (o : Option X) → ((n : ℕ) → P n → Q n) → ((n : ℕ) → Q n → P n ⊎ (at n ≡ None)) →
+      IsEarliest number at P o → IsEarliest number at Q o
   unfolding definitions
   more_looked P Q None in' back h = λ n q. ⊎_elim (h n) (λ e. e) (back n q)
-  more_looked P Q (Some b) in' back h =
-      record { looked = in' b.clause h.looked; fails = h.fails; lower = λ n lt q. ⊎_elim (h.lower n lt) (λ e. e) (back n q) }
+  more_looked P Q (Some x) in' back h =
+      record { looked = in' (number x) h.looked; there = h.there; lower = λ n lt q. ⊎_elim (h.lower n lt) (λ e. e) (back n q) }
 
-  -- there is one earliest failure
-  pub same_earliest : (P : ℕ → Type 0) (a b : Option Broken) → IsEarliest failure P a → IsEarliest failure P b → a ≡ b
+  -- there is one that is earliest
+  pub same_earliest : (P : ℕ → Type 0) (a b : Option X) → IsEarliest number at P a → IsEarliest number at P b → a ≡ b
   unfolding definitions
   same_earliest P None None h g = refl
-  same_earliest P None (Some b) h g = some_none (h b.clause g.looked) g.fails
+  same_earliest P None (Some b) h g = some_none (h (number b) g.looked) g.there
     where
-      some_none : {c : Broken} {o : Option Broken} → o ≡ None → o ≡ Some c → None ≡ Some c
+      some_none : {c : X} {o : Option X} → o ≡ None → o ≡ Some c → None ≡ Some c
       some_none p q = sym p ∙ q
-  same_earliest P (Some a) None h g = sym h.fails ∙ g a.clause h.looked
-  same_earliest P (Some a) (Some b) h g = go (nat_lt a.clause b.clause) (nat_lt b.clause a.clause) refl refl
+  same_earliest P (Some a) None h g = sym h.there ∙ g (number a) h.looked
+  same_earliest P (Some a) (Some b) h g = go (nat_lt (number a) (number b)) (nat_lt (number b) (number a)) refl refl
     where
-      go : (u v : Bool) → nat_lt a.clause b.clause ≡ u → nat_lt b.clause a.clause ≡ v → Some a ≡ Some b
-      go true v p q = let none = g.lower a.clause (grind (arith, nat_tests, p)) h.looked in let is = h.fails in cc
-      go false true p q = let none = h.lower b.clause (grind (arith, nat_tests, q)) g.looked in let is = g.fails in cc
+      go : (u v : Bool) → nat_lt (number a) (number b) ≡ u → nat_lt (number b) (number a) ≡ v → Some a ≡ Some b
+      go true v p q = let none = g.lower (number a) (grind (arith, nat_tests, p)) h.looked in let is = h.there in cc
+      go false true p q = let none = h.lower (number b) (grind (arith, nat_tests, q)) g.looked in let is = g.there in cc
       go false false p q =
-          let same : a.clause ≡ b.clause = grind (arith, nat_tests, p, q) in
-          sym h.fails ∙ ap failure same ∙ g.fails
+          let same : number a ≡ number b = grind (arith, nat_tests, p, q) in
+          sym h.there ∙ ap at same ∙ g.there
 
--- by another measure of failure that agrees on what was looked at
+  -- ---- the first numbers of a list
+  pub none_yet : (ns : List ℕ) → IsEarliest number at (λ n. has n (take 0 ns) ≡ true) None
+  none_yet ns = none_looked (λ n. has n (take 0 ns) ≡ true) (λ n h. cc)
+
+  pub number_more :
+      (ns : List ℕ) (i d : ℕ) → i < length ns → ((n : ℕ) (x : X) → at n ≡ Some x → number x ≡ n) → (found next both : Option X) →
+      IsEarliest number at (λ n. has n (take i ns) ≡ true) found → next ≡ at (get_or ns i d) → both ≡ earlier number found next →
+      IsEarliest number at (λ n. has n (take (i + 1) ns) ≡ true) both
+  number_more ns i d lt numbered found next both h is e =
+      let steps : (n : ℕ) → (has n (take (i + 1) ns) ≡ true → (has n (take i ns) ≡ true) ⊎ (n ≡ get_or ns i d)) ×
+      ((has n (take i ns) ≡ true) ⊎ (n ≡ get_or ns i d) → has n (take (i + 1) ns) ≡ true) = λ n. more_numbers ns i n d lt in
+      subst (IsEarliest number at (λ n. has n (take (i + 1) ns) ≡ true)) (sym e)
+      (more_looked (λ n. (has n (take i ns) ≡ true) ⊎ (n ≡ get_or ns i d)) (λ n. has n (take (i + 1) ns) ≡ true) (earlier number found next)
+      (λ n. (steps n).1) (λ n q. inl ((steps n).0 q))
+      (both_looked (λ n. has n (take i ns) ≡ true) (λ n. n ≡ get_or ns i d) found next h
+      (one_looked (get_or ns i d) next (λ x some. numbered (get_or ns i d) x (sym is ∙ some)) is)))
+
+  pub numbers_all :
+      (ns : List ℕ) (i : ℕ) → length ns ≤ i → (found : Option X) → IsEarliest number at (λ n. has n (take i ns) ≡ true) found →
+      IsEarliest number at (λ n. has n ns ≡ true) found
+  numbers_all ns i le found h = subst (λ l. IsEarliest number at (λ n. has n l ≡ true) found) (take_all i ns le) h
+
+-- by what is the same at the numbers that were looked at
 pub earliest_alike :
-    (f g : ℕ → Option Broken) (P : ℕ → Type 0) (o : Option Broken) → ((n : ℕ) → P n → f n ≡ g n) → IsEarliest f P o → IsEarliest g P o
+    {X : Type 0} (number : X → ℕ) (f g : ℕ → Option X) (P : ℕ → Type 0) (o : Option X) → ((n : ℕ) → P n → f n ≡ g n) →
+    IsEarliest number f P o → IsEarliest number g P o
 unfolding definitions
-earliest_alike f g P None same h = λ n p. sym (same n p) ∙ h n p
-earliest_alike f g P (Some b) same h = record {
+earliest_alike number f g P None same h = λ n p. sym (same n p) ∙ h n p
+earliest_alike number f g P (Some x) same h = record {
   looked = h.looked;
-  fails = sym (same b.clause h.looked) ∙ h.fails;
+  there = sym (same (number x) h.looked) ∙ h.there;
   lower = λ n lt p. sym (same n p) ∙ h.lower n lt p;
 }
+
+-- ---- numbers one after another
+abbrev pub Within : ℕ → ℕ → ℕ → Type 0
+Within k count n = (k ≤ n) × (n < k + count)
+
+module _ {X : Type 0} (number : X → ℕ) (at : ℕ → Option X) where
+  -- nothing is at the first number
+  pub passed_one :
+      (k count : ℕ) (o : Option X) → at k ≡ None → IsEarliest number at (Within (suc k) count) o → IsEarliest number at (Within k (suc count)) o
+  passed_one k count o none = more_looked number at (Within (suc k) count) (Within k (suc count)) o (λ n h. (omega (arith, h.0), omega (arith, h.1))) back
+    where
+      back : (n : ℕ) → Within k (suc count) n → Within (suc k) count n ⊎ (at n ≡ None)
+      back n h = go (nat_lt k n) refl
+        where
+          go : (v : Bool) → nat_lt k n ≡ v → Within (suc k) count n ⊎ (at n ≡ None)
+          go true e = let lt : k < n = grind (arith, nat_tests, e) in inl (omega (arith, lt), omega (arith, h.1))
+          go false e =
+              let most : k < n → ⊥ = λ lt. grind (arith, nat_tests, e, lt) in
+              let same : n ≡ k = omega (arith, h.0, most) in
+              inr (ap at same ∙ none)
+
+  -- something is
+  pub found_one : (k count : ℕ) (x : X) → number x ≡ k → at k ≡ Some x → IsEarliest number at (Within k (suc count)) (Some x)
+  unfolding definitions
+  found_one k count x here there = record {
+    looked = (omega (arith, here), omega (arith, here));
+    there = ap at here ∙ there;
+    lower = λ n lt h. absurd (omega (arith, lt, h.0, here));
+  }

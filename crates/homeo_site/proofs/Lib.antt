@@ -2,7 +2,9 @@ pub mod CallsOfSites
 pub mod Earliest
 pub mod Limits
 pub mod LocalSteps
+pub mod Numbered
 pub mod ObjectTerms
+pub mod OnObjects
 pub mod OrderedAtoms
 pub mod OwnChecks
 pub mod OwnEvals
@@ -10,6 +12,7 @@ pub mod OwnFailures
 pub mod OwnFits
 pub mod OwnSums
 pub mod OwnTerms
+pub mod OwnWrites
 pub mod PartsMade
 pub mod PlanChecks
 pub mod PlanClauses
@@ -20,4 +23,3 @@ pub mod StepFindings
 pub mod StepsRun
 pub mod TemplateClauses
 pub mod WalkRuns
-pub mod WrittenObjects

@@ -1,6 +1,6 @@
 -- Base plus own deltas is within bounds at a site, before a call's local step and after it, whether or not it keeps the
 -- treaty; so a site has no delta but of an object that there is.
-use Rattle.std.proofs.Common.{◌≡◌, ℕ, zero, suc, ◌+◌, ◌≤◌, List, [], ◌∷◌, map, length, get_or, ℤ, pos, ◌+ℤ◌, refl, ap, ◌∙◌, subst, arith}
+use Rattle.std.proofs.Common.{◌≡◌, ℕ, zero, suc, ◌+◌, ◌<◌, ◌≤◌, List, [], ◌∷◌, map, length, get_or, ℤ, pos, ◌+ℤ◌, refl, ap, ◌∙◌, subst, arith}
 use mathlib.Core.Path.{fun_ext}
 use Rattle.std.proofs.lemmas.Int.{ints}
 use Rattle.std.proofs.lemmas.List.{get_or_past}
@@ -13,10 +13,14 @@ use Rattle.homeo_meaning.specs.Schema.{schema_of}
 use Rattle.homeo_meaning.specs.Serial.{values_of, values_from, database_like}
 use Rattle.homeo_meaning.proofs.Within.{length_in}
 use Rattle.homeo_plan.specs.Key.{definitions as plan_definitions}
+use Rattle.homeo_plan.specs.Config.{Config, Fits}
+use Rattle.homeo_plan.specs.Each.{Member}
 use Rattle.homeo_plan.specs.Joined.{Deltas}
-use Rattle.homeo_plan.specs.Local.{no_deltas}
-use Rattle.homeo_plan.specs.Planned.{sites_of, planned_at, template_at, policy}
+use Rattle.homeo_plan.specs.Local.{local_deltas, no_deltas}
+use Rattle.homeo_plan.specs.Planned.{sites_of, planned, planned_at, template_at, policy}
 use Rattle.homeo_plan.specs.Replay.{CanStep}
+use Rattle.homeo_plan.specs.Template.{PlannedCall}
+use Rattle.homeo_plan.specs.Treaty.{Treaty}
 use Rattle.homeo_plan.proofs.OwnWithin.{step_within}
 use Rattle.homeo_plan.proofs.PlannedCalls.{planned_member}
 use Rattle.homeo_plan.proofs.Policy.{policy_fits}
@@ -79,19 +83,26 @@ module _ (w : s.Workload) (x : SiteState) (accepted : IsAccepted w) (h : SiteHol
   pub ready : IsReady w x
   ready = record { site = h.site; within = h.within; count = h.count; meets = h.meets; all = own_within }
 
+-- a planned call of a site leaves base plus deltas within bounds, by any configuration that fits
+module _
+    (w : s.Workload) (base : List ℤ) (config : Config) (i : ℕ) (x : Deltas) (accepted : IsAccepted w)
+    (fits : Fits (sites_of w) (template_at w base).clauses config) (site : i < sites_of w) (meets : Treaty (template_at w base) config i x)
+    (all : AllWithin (schema_of w) (λ n. values_of base n +ℤ x n)) (g : PlannedCall) (member : Member g (planned w)) (here : g.site ≡ i)
+  where
+    can : CanStep (schema_of w) (sites_of w) (values_of base) (template_at w base) i g
+    unfolding plan_definitions
+    can = (can_step w base i (g ∷ []) ((here, member), tt)).0
+
+    pub stays_within : AllWithin (schema_of w) (λ n. values_of base n +ℤ local_deltas (sites_of w) (values_of base) g x n)
+    stays_within = step_within (schema_of w) (sites_of w) (values_of base) (template_at w base) config i x g fits site can meets all
+
 module _ (w : s.Workload) (x : SiteState) (accepted : IsAccepted w) (h : IsReady w x) where
   module _ (call : CallId) (at : IsCallAt w x.number call) where
-    can : CanStep (schema_of w) (sites_of w) (values_of x.base) (template_at w x.base) x.number (planned_at w call)
-    unfolding plan_definitions
-    can =
-        (can_step w x.base x.number (planned_at w call ∷ [])
-        ((call_site w x.number call at, planned_member w call at.exists), tt)).0
-
     pub after_within : AllWithin (schema_of w) (λ n. values_of x.base n +ℤ step_values w x call n)
-    unfolding plan_definitions history_definitions meaning_definitions definitions
+    unfolding history_definitions definitions
     after_within =
-        step_within (schema_of w) (sites_of w) (values_of x.base) (template_at w x.base) (policy w x.base) x.number
-        (values_of x.deltas) (planned_at w call) (policy_fits w x.base accepted) h.site can h.meets h.all
+        stays_within w x.base (policy w x.base) x.number (values_of x.deltas) accepted (policy_fits w x.base accepted) h.site h.meets h.all
+        (planned_at w call) (planned_member w call at.exists) (call_site w x.number call at)
 
     -- the list of the deltas after the step is the deltas after it
     pub step_list : values_of (step_deltas w x call) ≡ step_values w x call

@@ -6,8 +6,7 @@ use Rattle.homeo_plan.specs.declared.forms.Term.{Term}
 use Rattle.homeo_follow.specs.Key.{definitions as follow_definitions}
 use Rattle.homeo_follow.specs.Expanded.{terms_from, expanded_terms}
 use Rattle.homeo_site.specs.Key.{definitions}
-use Rattle.homeo_site.specs.OwnTreaty.{OwnTerm, own_terms}
-use Rattle.homeo_site.specs.inner.Parts.{own_term}
+use Rattle.homeo_site.specs.OwnTreaty.{own_term, OwnTerm, own_terms}
 
 own_append : (i : ℕ) (ts us : List Term) → own_terms i (ts ++ us) ≡ own_terms i ts ++ own_terms i us
 unfolding definitions

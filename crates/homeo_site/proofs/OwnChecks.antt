@@ -1,9 +1,8 @@
 -- What a site checks of a plan's clauses is what the treaty says of its deltas.
-use Rattle.std.proofs.Common.{◌≡◌, ℕ, ◌+◌, ◌<◌, ◌≤◌, List, [], map, length, get_or, ℤ, pos, ◌*ℤ◌, ◌≤ℤ◌, int_le, All, true, false, cond, Option, Some, None, is_some, refl, sym, ap, ◌∙◌, subst, arith}
+use Rattle.std.proofs.Common.{◌≡◌, ℕ, ◌<◌, List, [], map, length, get_or, ℤ, pos, ◌*ℤ◌, ◌≤ℤ◌, int_le, All, true, cond, Some, None, sym, ap, ◌∙◌, subst, arith}
 use Rattle.std.proofs.lemmas.Int.{ints}
 use Rattle.std.proofs.lemmas.List.{length-map, get_or-map}
 use Rattle.homeo_syntax.specs.Listed.{Listed}
-use Rattle.homeo_plan.specs.declared.treaty.Broken.{Broken}
 use Rattle.homeo_plan.specs.declared.forms.Delta.{Delta}
 use Rattle.homeo_plan.specs.declared.forms.Term.{Term}
 use Rattle.homeo_plan.specs.Config.{HaveSlack}
@@ -15,25 +14,9 @@ use Rattle.homeo_outline.specs.ObjectPlan.{template_with, template_in, config_in
 use Rattle.homeo_outline.specs.declared.plan.ObjectPlan.{ObjectPlan}
 use Rattle.homeo_outline.proofs.Leading.{at_most_both}
 use Rattle.homeo_site.specs.Key.{definitions}
-use Rattle.homeo_site.specs.inner.Failures.{sum_failure, first_of, own_failure}
-use Rattle.homeo_site.specs.inner.Parts.{own_term}
-use Rattle.homeo_site.specs.OwnTreaty.{OwnClause, own_sum, SumsFit, own_clauses}
-use Rattle.homeo_site.proofs.PlanClauses.{template_count, within_each, own_is, own_count}
-
--- ---- the first of two
-first_is : (a b : Option Broken) → is_some a ≡ true → a ≡ first_of a b
-unfolding definitions
-first_is None b e = cc
-first_is (Some f) b e = refl
-
-pub first_found : (f a b : Option Broken) → is_some f ≡ true → f ≡ a → f ≡ first_of a b
-unfolding definitions
-first_found f a b some e = e ∙ first_is a b (ap is_some (sym e) ∙ some)
-
-pub second_is : (a b : Option Broken) → is_some a ≡ false → b ≡ first_of a b
-unfolding definitions
-second_is None b e = refl
-second_is (Some f) b e = cc
+use Rattle.homeo_site.specs.inner.Failures.{sum_failure, own_failure}
+use Rattle.homeo_site.specs.OwnTreaty.{own_term, OwnClause, own_sum, SumsFit, own_clauses}
+use Rattle.homeo_site.proofs.PlanClauses.{template_count, within_each, own_is, fits_at}
 
 -- ---- the template of a plan
 module _ (p : ObjectPlan) where
@@ -44,17 +27,18 @@ module _ (p : ObjectPlan) where
   unfolding follow_definitions outline_definitions
   template_freezes ds same = same
 
-  -- what is frozen has its numbers after those of the clauses
-  pub freezes_there :
-      (ls : List (Listed Term)) (ds : List Delta) (ns : List ℕ) → map (λ (l : Listed Term). l.items) ls ≡ p.outline.value.terms →
-      ds ≡ p.outline.value.freezes →
-      All (λ n. (length (template_in p).clauses ≤ n) × (n < length (template_in p).clauses + length (template_in p).freezes)) ns →
-      All (λ n. (length ls ≤ n) × (n < length ls + length ds)) ns
-  freezes_there ls ds ns clauses freezes h =
-      subst (λ (l : List Delta). All (λ n. (length ls ≤ n) × (n < length ls + length l)) ns) (sym (template_freezes ds freezes))
-      (subst (λ m. All (λ n. (m ≤ n) × (n < m + length (template_in p).freezes)) ns) (sym (lent_count ls clauses)) h)
-
 -- ---- the clause of a number, by its terms as they are lent
+module _
+    (p : ObjectPlan) (n : ℕ) (within : n < length (template_in p).clauses) (ls : List (Listed Term))
+    (lent : map (λ (l : Listed Term). l.items) ls ≡ p.outline.value.terms) (l : Listed Term) (there : l ≡ get_or ls n l)
+    (ts : List Term) (terms : ts ≡ l.items)
+  where
+    pub terms_there : ts ≡ get_or p.outline.value.terms n []
+    terms_there =
+        let lt : n < length ls = subst (λ m. n < m) (sym (lent_count p ls lent)) within in
+        terms ∙ ap (λ (m : Listed Term). m.items) there ∙ sym (get_or-map (λ (m : Listed Term). m.items) ls n l [] lt)
+        ∙ ap (λ tss. get_or tss n []) lent
+
 module _
     (p : ObjectPlan) (i n : ℕ) (site : i < p.outline.value.sites) (within : n < length (template_in p).clauses) (ls : List (Listed Term))
     (lent : map (λ (l : Listed Term). l.items) ls ≡ p.outline.value.terms) (l : Listed Term) (there : l ≡ get_or ls n l)
@@ -66,23 +50,17 @@ module _
     abbrev bound : ℤ
     bound = bound_at (get_or (config_in p) n []) i
 
-    pub terms_there : ts ≡ get_or p.outline.value.terms n []
-    terms_there =
-        let lt : n < length ls = subst (λ m. n < m) (sym (lent_count p ls lent)) within in
-        terms ∙ ap (λ (m : Listed Term). m.items) there ∙ sym (get_or-map (λ (m : Listed Term). m.items) ls n l [] lt)
-        ∙ ap (λ tss. get_or tss n []) lent
+    here : ts ≡ get_or p.outline.value.terms n []
+    here = terms_there p n within ls lent l there ts terms
 
     clause_is : (d : OwnClause) → get_or cs n d ≡ record { terms = map own_term ts; bound = bound }
     clause_is d =
         own_is p n within i site d
-        ∙ ap (λ us. record { terms = map own_term us; bound = bound }) (sym terms_there)
+        ∙ ap (λ us. record { terms = map own_term us; bound = bound }) (sym here)
 
     -- its sums fit where those of all do
     pub clause_fits : (x : Deltas) → All (λ (o : OwnClause). SumsFit o.terms x) cs → SumsFit (map own_term ts) x
-    clause_fits x fit =
-        let none : OwnClause = record { terms = []; bound = pos 0 } in
-        subst (λ (o : OwnClause). SumsFit o.terms x) (clause_is none)
-        (fit n none (subst (λ m. n < m) (sym (own_count i (template_in p).clauses (config_in p))) within))
+    clause_fits x fit = subst (λ us. SumsFit (map own_term us) x) (sym here) (fits_at p n within i site x fit)
 
     -- what fails of it
     pub clause_fails : (x : Deltas) → own_failure cs x n ≡ sum_failure n (own_sum (map own_term ts) x) bound

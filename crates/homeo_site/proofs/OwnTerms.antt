@@ -16,8 +16,7 @@ use Rattle.homeo_plan.specs.Template.{Clause}
 use Rattle.homeo_plan.specs.Treaty.{site_sum, bound_at}
 use Rattle.homeo_config.proofs.EvenBounds.{even_bound_is}
 use Rattle.homeo_site.specs.Key.{definitions}
-use Rattle.homeo_site.specs.OwnTreaty.{OwnTerm, own_terms, own_sum, SumsFit}
-use Rattle.homeo_site.specs.inner.Parts.{own_term}
+use Rattle.homeo_site.specs.OwnTreaty.{own_term, OwnTerm, own_terms, own_sum, SumsFit}
 
 -- a site's sum is that of its own terms
 pub own_sum_is : (i : ℕ) (ts : List Term) (x : Deltas) → own_sum (own_terms i ts) x ≡ site_sum i ts x

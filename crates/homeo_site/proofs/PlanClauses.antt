@@ -1,15 +1,16 @@
 -- The clauses of a plan by their numbers: their terms, slacks and bounds, and what a site keeps of them.
-use Rattle.std.proofs.Common.{◌≡◌, ℕ, zero, suc, ◌<◌, List, [], ◌∷◌, map, length, get_or, ℤ, pos, ◌*ℤ◌, ◌≤ℤ◌, false, Option, Some, None, is_some, refl, sym, ap, ◌∙◌, subst, arith}
+use Rattle.std.proofs.Common.{◌≡◌, ℕ, zero, suc, ◌<◌, List, [], ◌∷◌, map, length, get_or, ℤ, pos, ◌*ℤ◌, ◌≤ℤ◌, All, false, Option, Some, None, is_some, refl, sym, ap, ◌∙◌, subst, arith}
 use Rattle.std.specs.Prelude.{replicate}
-use Rattle.std.proofs.lemmas.List.{length-map, get_or-map}
+use Rattle.std.proofs.lemmas.List.{length-map, get_or-map, get_or_default}
 use Rattle.homeo_plan.specs.Key.{definitions as plan_definitions}
 use Rattle.homeo_plan.specs.declared.forms.Term.{Term}
 use Rattle.homeo_plan.specs.declared.templates.Config as code
 use Rattle.homeo_plan.specs.Config.{Config, HaveSlack, split, even}
 use Rattle.homeo_plan.specs.Each.{Each}
+use Rattle.homeo_plan.specs.Joined.{Deltas}
 use Rattle.homeo_plan.specs.PlanView.{plain_config}
 use Rattle.homeo_plan.specs.Template.{Clause}
-use Rattle.homeo_plan.specs.Treaty.{bound_at}
+use Rattle.homeo_plan.specs.Treaty.{site_sum, bound_at}
 use Rattle.homeo_follow.specs.Key.{definitions as follow_definitions}
 use Rattle.homeo_follow.specs.ObjectTemplate.{expanded_clause}
 use Rattle.homeo_outline.specs.Key.{definitions as outline_definitions}
@@ -17,10 +18,9 @@ use Rattle.homeo_outline.specs.ObjectPlan.{clauses_with, template_with, template
 use Rattle.homeo_outline.specs.declared.plan.ObjectPlan.{ObjectPlan}
 use Rattle.homeo_outline.proofs.Slacks.{clause_count, clause_read}
 use Rattle.homeo_site.specs.Key.{definitions}
-use Rattle.homeo_site.specs.OwnTreaty.{OwnClause, own_terms, own_clauses}
-use Rattle.homeo_site.specs.inner.Parts.{own_term}
+use Rattle.homeo_site.specs.OwnTreaty.{own_term, OwnClause, own_terms, own_sum, SumsFit, own_clauses}
 use Rattle.homeo_site.proofs.ObjectTerms.{own_all}
-use Rattle.homeo_site.proofs.OwnTerms.{even_at, within_even}
+use Rattle.homeo_site.proofs.OwnTerms.{own_sum_is, even_at, within_even}
 
 -- ---- clauses of these terms and slacks
 pub slack_at :
@@ -70,6 +70,10 @@ module _ (k : ℕ) (tss : List (List Term)) (ss : List ℤ) where
         get_or-map (expanded_clause k) (clauses_with tss ss) n none (expanded_clause k none) (subst (λ m. n < m) (sym (clause_count tss ss)) lt)
         ∙ ap (expanded_clause k) (clause_read tss ss n none lt)
 
+    pub slack_of : (c : Clause) → (get_or clauses n c).slack ≡ get_or ss n (pos 0)
+    unfolding follow_definitions
+    slack_of c = ap (λ (d : Clause). d.slack) (get_or_default clauses n c (expanded_clause k none) here ∙ expanded_at)
+
     pub even_split : get_or (even k clauses) n [] ≡ split (replicate k 1) (get_or ss n (pos 0))
     unfolding follow_definitions
     even_split =
@@ -109,6 +113,10 @@ module _ (p : ObjectPlan) where
     unfolding outline_definitions
     slack_is P h = slack_at P p.outline.value.terms p.slacks.items n there h
 
+    pub slack_here : (c : Clause) → (get_or (template_in p).clauses n c).slack ≡ slack
+    unfolding follow_definitions outline_definitions
+    slack_here = slack_of p.outline.value.sites p.outline.value.terms p.slacks.items n there
+
     pub even_config : p.bounds ≡ None → get_or (config_in p) n [] ≡ split (replicate p.outline.value.sites 1) slack
     unfolding follow_definitions outline_definitions
     even_config none =
@@ -129,3 +137,18 @@ module _ (p : ObjectPlan) where
         record { terms = map own_term (get_or p.outline.value.terms n []); bound = bound_at (get_or (config_in p) n []) i }
     unfolding follow_definitions outline_definitions
     own_is i site d = own_clause p.outline.value.sites p.outline.value.terms p.slacks.items n there i site (config_in p) d
+
+    -- a site's sum is that of the terms over whole objects, and they can be summed where those of all clauses can
+    module _ (i : ℕ) (site : i < p.outline.value.sites) (x : Deltas) where
+      no_clause : OwnClause
+      no_clause = record { terms = []; bound = pos 0 }
+
+      pub sum_is : (c : Clause) → own_sum (map own_term (get_or p.outline.value.terms n [])) x ≡ site_sum i (get_or (template_in p).clauses n c).terms x
+      sum_is c =
+          ap (λ (o : OwnClause). own_sum o.terms x) (sym (own_is i site no_clause) ∙ own_at i (template_in p).clauses (config_in p) n c no_clause within)
+          ∙ own_sum_is i (get_or (template_in p).clauses n c).terms x
+
+      pub fits_at : All (λ (o : OwnClause). SumsFit o.terms x) (own_clauses i (template_in p).clauses (config_in p)) → SumsFit (map own_term (get_or p.outline.value.terms n [])) x
+      fits_at fit =
+          subst (λ (o : OwnClause). SumsFit o.terms x) (own_is i site no_clause)
+          (fit n no_clause (subst (λ m. n < m) (sym (own_count i (template_in p).clauses (config_in p))) within))

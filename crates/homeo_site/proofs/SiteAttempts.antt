@@ -11,7 +11,6 @@ use Rattle.homeo_meaning.specs.Serial.{values_of}
 use Rattle.homeo_plan.specs.declared.treaty.Broken.{Broken}
 use Rattle.homeo_plan.specs.Planned.{template_at, policy}
 use Rattle.homeo_plan.proofs.Findings.{finding_law}
-use Rattle.homeo_effect.specs.Touched.{written}
 use Rattle.homeo_history.specs.Key.{definitions as history_definitions}
 use Rattle.homeo_history.specs.History as h
 use Rattle.homeo_history.specs.HistoryView.{plain_entry, plain_segment}

@@ -5,7 +5,6 @@ use Rattle.homeo_syntax.specs.Listed.{Listed}
 use Rattle.homeo_syntax.specs.SourceView.{plain_workload}
 use Rattle.homeo_meaning.specs.declared.call.CallId.{CallId}
 use Rattle.homeo_meaning.specs.Serial.{values_of}
-use Rattle.homeo_effect.specs.Touched.{written}
 use Rattle.homeo_history.specs.Key.{definitions as history_definitions}
 use Rattle.homeo_history.specs.HistoryView.{plain_entry, plain_segment}
 use Rattle.homeo_history.specs.declared.history.Entry.{Entry}

@@ -1,6 +1,5 @@
 -- What a site keeps of a treaty fails as the treaty does, number by number.
-use Rattle.std.proofs.Common.{◌≡◌, ℕ, zero, suc, ◌+◌, ◌<◌, ◌≤◌, Bool, true, false, cond, List, [], ◌∷◌, length, get_or, ℤ, pos, All, refl, sym, ap, ap₂, ◌∙◌, subst, arith}
-use Rattle.std.proofs.lemmas.List.Elements.{All-nil, All-cons}
+use Rattle.std.proofs.Common.{◌≡◌, ℕ, zero, suc, ◌+◌, ◌-◌, ◌<◌, List, [], ◌∷◌, length, get_or, ℤ, pos, refl, sym, ap, ap₂, ◌∙◌, subst, arith}
 use Rattle.homeo_syntax.specs.Source as s
 use Rattle.homeo_meaning.specs.Key.{definitions as meaning_definitions}
 use Rattle.homeo_meaning.specs.LowMeaning.{whole}
@@ -19,29 +18,10 @@ use Rattle.homeo_plan.specs.Treaty.{bound_at, KeepsClauses}
 use Rattle.homeo_plan.proofs.Replays.{planned_whole}
 use Rattle.homeo_plan.proofs.Straight.{walk_straight}
 use Rattle.homeo_plan.proofs.Tables.{row_at_walk}
-use Rattle.homeo_outline.specs.Numbers.{numbers_where}
 use Rattle.homeo_site.specs.Key.{definitions}
 use Rattle.homeo_site.specs.inner.Failures.{sum_failure, freeze_failure, freeze_failure_from, failure_from}
 use Rattle.homeo_site.specs.OwnTreaty.{own_sum, own_clauses}
 use Rattle.homeo_site.proofs.OwnTerms.{own_sum_is}
-
--- ---- numbers of a list
-pub within_numbers :
-    {X : Type 0} (test : X → Bool) (n : ℕ) (xs : List X) → All (λ m. (n ≤ m) × (m < n + length xs)) (numbers_where test n xs)
-within_numbers test n [] = All-nil (λ m. (n ≤ m) × (m < n + 0))
-within_numbers test n (x ∷ xs) = go (test x) (wider (numbers_where test (suc n) xs) (within_numbers test (suc n) xs))
-  where
-    wider :
-        (ms : List ℕ) → All (λ m. (suc n ≤ m) × (m < suc n + length xs)) ms →
-        All (λ m. (n ≤ m) × (m < n + suc (length xs))) ms
-    wider ms h k d lt = let here = h k d lt in (omega (arith, here.0), omega (arith, here.1))
-
-    go :
-        (v : Bool) → All (λ m. (n ≤ m) × (m < n + suc (length xs))) (numbers_where test (suc n) xs) →
-        All (λ m. (n ≤ m) × (m < n + suc (length xs))) (cond v (n ∷ numbers_where test (suc n) xs) (numbers_where test (suc n) xs))
-    go true h =
-        All-cons (λ m. (n ≤ m) × (m < n + suc (length xs))) n (numbers_where test (suc n) xs) (omega arith, omega arith) h
-    go false h = h
 
 -- ---- what the site keeps fails as the treaty does
 pub clause_at :

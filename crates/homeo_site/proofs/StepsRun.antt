@@ -7,7 +7,6 @@ use Rattle.std.proofs.lemmas.Nat.{mul-le}
 use Rattle.std.proofs.lemmas.List.Elements.{All-head, All-tail}
 use Rattle.homeo_syntax.specs.Source as s
 use Rattle.homeo_meaning.specs.Key.{definitions as meaning_definitions}
-use Rattle.homeo_meaning.specs.declared.call.CallId.{CallId}
 use Rattle.homeo_meaning.specs.Acceptance.{weight_limit as largest, IsAccepted}
 use Rattle.homeo_meaning.specs.Bounds.{AllWithin, IsWithin}
 use Rattle.homeo_meaning.specs.CallForm.{ground_form}
@@ -22,7 +21,7 @@ use Rattle.homeo_meaning.proofs.Within.{all_within}
 use Rattle.homeo_plan.specs.Key.{definitions as plan_definitions}
 use Rattle.homeo_plan.specs.Each.{Member}
 use Rattle.homeo_plan.specs.Joined.{Deltas, alone}
-use Rattle.homeo_plan.specs.Planned.{sites_of, planned_call, planned, planned_at, template_at, policy}
+use Rattle.homeo_plan.specs.Planned.{sites_of, planned_call, planned, template_at, policy}
 use Rattle.homeo_plan.specs.Split.{fold_state, shift}
 use Rattle.homeo_plan.specs.Table.{Row, table, row_at, HasNoTemps}
 use Rattle.homeo_plan.specs.Template.{PlannedCall, shifted, base_row}
@@ -30,7 +29,6 @@ use Rattle.homeo_plan.proofs.BoundSizes.{most}
 use Rattle.homeo_plan.proofs.GroundNumbers.{values_small, fold_numbers}
 use Rattle.homeo_plan.proofs.Local.{locally_sound}
 use Rattle.homeo_plan.proofs.OwnWithin.{only, only_keeps, only_folded, alone_is_joined}
-use Rattle.homeo_plan.proofs.PlannedCalls.{planned_member}
 use Rattle.homeo_plan.proofs.Policy.{policy_fits}
 use Rattle.homeo_plan.proofs.Replays.{planned_whole, planned_covers}
 use Rattle.homeo_plan.proofs.Tables.{row_at_walk}
@@ -39,12 +37,8 @@ use Rattle.homeo_ground.proofs.Called.{are_called}
 use Rattle.homeo_split.specs.CanExec.{run_limit, can_exec, can_exec_all}
 use Rattle.homeo_delta.specs.SmallParts.{HasSmallParts}
 use Rattle.homeo_delta.proofs.SmallShifts.{runs_law}
-use Rattle.homeo_history.specs.Legal.{IsCallAt}
 use Rattle.homeo_history.specs.Replayed.{MeetsTreaty}
 use Rattle.homeo_history.specs.Key.{definitions as history_definitions}
-use Rattle.homeo_site.specs.SiteState.{SiteState}
-use Rattle.homeo_site.specs.inner.Ready.{IsReady}
-use Rattle.homeo_site.proofs.CallsOfSites.{call_site}
 use Rattle.homeo_site.proofs.Limits.{few_sites}
 use Rattle.homeo_site.proofs.WalkRuns.{residual_runs}
 
@@ -140,12 +134,3 @@ module _
       alone_runs =
           subst (λ (r : Row). can_exec_all run_limit r.residual here ≡ true)
           (sym (row_at_walk (shifted k g) here (no_temps b i own)) ∙ same_row) (residual_runs run_limit (shifted k g) here call_runs)
-
--- ---- a call of a site
-pub step_runs :
-    (w : s.Workload) (x : SiteState) → IsAccepted w → IsReady w x → (call : CallId) → IsCallAt w x.number call →
-    can_exec_all run_limit (base_row (sites_of w) (values_of x.base) (planned_at w call)).residual
-    (alone (values_of x.base) x.number (values_of x.deltas)) ≡ true
-step_runs w x accepted h call at =
-    alone_runs w x.base x.number (values_of x.deltas) accepted h.within h.site h.meets h.all (planned_at w call)
-    (planned_member w call at.exists) (call_site w x.number call at)

@@ -13,6 +13,11 @@ pub record OwnTerm : Type 0 where
   pub object : ℕ
   pub factor : ℤ
 
+-- a term over whole objects, as it stands on a site's own delta
+abbrev pub own_term : Term → OwnTerm
+unfolding definitions
+own_term t = record { object = t.delta.object; factor = t.factor }
+
 -- the terms on deltas of site i
 abbrev pub own_terms : ℕ → List Term → List OwnTerm
 unfolding definitions

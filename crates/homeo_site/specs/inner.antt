@@ -1,4 +1,3 @@
-pub mod Earliest
 pub mod Failures
 pub mod OwnRound
 pub mod Parts

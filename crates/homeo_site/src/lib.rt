@@ -11,5 +11,6 @@ mod site;
 mod start;
 
 pub use attempts::{Change, Outcome, Room};
+pub use own_treaty::own_sum;
 pub use site::Site;
 pub use start::SiteStart;

@@ -8,11 +8,12 @@ ghost use Rattle.homeo_plan.specs.PlanView.{plain_config};
 ghost use Rattle.homeo_plan.specs.Treaty.{Treaty, bound_at, finding};
 ghost use Rattle.homeo_outline.specs.Numbers.{has, clauses_on};
 ghost use Rattle.homeo_outline.specs.ObjectPlan.{template_in, config_in};
-ghost use Rattle.homeo_site.specs.inner.Earliest.{IsEarliest, earlier};
-ghost use Rattle.homeo_site.specs.inner.Failures.{sum_failure, freeze_failure, own_failure, own_freeze_failure};
-ghost use Rattle.homeo_site.specs.inner.Parts.{own_term, CanKeep};
-ghost use Rattle.homeo_site.specs.inner.PlanFailures.{HoldLed, StandsOn, plan_failure};
-ghost use Rattle.homeo_site.specs.OwnTreaty.{own_sum, SumsFit, own_clauses};
+ghost use Rattle.homeo_site.specs.Earliest.{IsEarliest, earlier};
+ghost use Rattle.homeo_site.specs.inner.Failures.{clause_number, sum_failure, freeze_failure, own_failure, own_freeze_failure};
+ghost use Rattle.homeo_site.specs.inner.Parts.{CanKeep};
+ghost use Rattle.homeo_site.specs.inner.PlanFailures.{HoldLed, plan_failure};
+ghost use Rattle.homeo_site.specs.OwnTreaty.{own_term, own_sum, SumsFit, own_clauses};
+ghost use Rattle.homeo_site.specs.StandsOn.{StandsOn};
 
 use homeo_config::even_bound;
 use homeo_meaning::padded::item_or;
@@ -22,7 +23,7 @@ use homeo_plan::{Broken, Config, Delta, Term};
 /// The earlier of two failures, that of the lower number.
 #[tactic(auto, unfolding(crate::specs::Key::definitions))]
 fn earlier(found: Option<Broken>, next: Option<Broken>) -> Option<Broken>
-    ensures { result ≡ earlier found next }
+    ensures { result ≡ earlier clause_number found next }
 {
     match (found, next) {
         (None, _) => next,
@@ -98,9 +99,12 @@ fn with_term(sum: i128, term: Term, deltas: &[i64]) -> i128
     sum + term.factor * i128::from(delta)
 }
 
-/// The sum of factor times delta, where each term is over a whole object and so stands for the site's delta too.
+/// The sum of factor times delta, where each term is over a whole object and so stands for a site's own delta, which is at the
+/// object's place: 0 where there is none. It takes no memory.
+///
+/// Each product, and each sum of the first terms, must be within the range of i128.
 #[tactic(auto, using(crate::proofs::OwnTerms::all_sum), unfolding(crate::specs::Key::definitions))]
-fn own_sum(terms: &[Term], deltas: &[i64]) -> i128
+pub fn own_sum(terms: &[Term], deltas: &[i64]) -> i128
     requires { SumsFit (map own_term terms.now) (values_of deltas.now) }
     ensures { result ≡ own_sum (map own_term terms.now) (values_of deltas.now) }
 {
@@ -151,7 +155,7 @@ fn earliest_clause(plan: &ObjectPlan, site: u32, numbers: &[u32], deltas: &[i64]
     requires numbers { All (λ n. n < length (template_in plan.now).clauses) numbers.now }
     requires fit { All (λ c. SumsFit c.terms (values_of deltas.now))
         (own_clauses site (template_in plan.now).clauses (config_in plan.now)) }
-    ensures { IsEarliest (own_failure (own_clauses site (template_in plan.now).clauses (config_in plan.now)) (values_of deltas.now))
+    ensures { IsEarliest clause_number (own_failure (own_clauses site (template_in plan.now).clauses (config_in plan.now)) (values_of deltas.now))
         (λ n. has n numbers.now ≡ true) result }
 {
     let mut found = None;
@@ -188,7 +192,7 @@ fn earliest_freeze(
     deltas: &[i64],
 ) -> Option<Broken>
     requires { All (λ n. (first ≤ n) × (n < first + length freezes.now)) numbers.now }
-    ensures { IsEarliest (own_freeze_failure first site freezes.now (values_of deltas.now)) (λ n. has n numbers.now ≡ true) result }
+    ensures { IsEarliest clause_number (own_freeze_failure first site freezes.now (values_of deltas.now)) (λ n. has n numbers.now ≡ true) result }
 {
     let mut found = None;
     for number in numbers {
@@ -241,7 +245,7 @@ fn clause_failure_on(plan: &ObjectPlan, site: u32, object: u32, deltas: &[i64]) 
     requires keeps { CanKeep plan.now site }
     requires fit { All (λ c. SumsFit c.terms (values_of deltas.now))
         (own_clauses site (template_in plan.now).clauses (config_in plan.now)) }
-    ensures { IsEarliest (own_failure (own_clauses site (template_in plan.now).clauses (config_in plan.now)) (values_of deltas.now))
+    ensures { IsEarliest clause_number (own_failure (own_clauses site (template_in plan.now).clauses (config_in plan.now)) (values_of deltas.now))
         (λ n. has n (clauses_on object plan.now.outline.value.terms) ≡ true) result }
 {
     if leaders_hold(plan, site, object, deltas) {
@@ -255,7 +259,7 @@ fn failure_on(plan: &ObjectPlan, site: u32, object: u32, deltas: &[i64]) -> Opti
     requires keeps { CanKeep plan.now site }
     requires fit { All (λ c. SumsFit c.terms (values_of deltas.now))
         (own_clauses site (template_in plan.now).clauses (config_in plan.now)) }
-    ensures { IsEarliest (plan_failure plan.now site (values_of deltas.now)) (StandsOn plan.now object) result }
+    ensures { IsEarliest clause_number (plan_failure plan.now site (values_of deltas.now)) (StandsOn plan.now object) result }
 {
     let outline = &*plan.outline;
     let clause = clause_failure_on(plan, site, object, deltas);

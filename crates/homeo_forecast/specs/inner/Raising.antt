@@ -1,50 +1,55 @@
 -- Rooms that can be tested for a site's deltas, and rooms of which some have taken one visit more, and others not yet.
-use Rattle.std.specs.Prelude.{◌≡◌, ◌<◌, ◌⊎◌, ℕ, List, [], ◌∷◌, ◌++◌, length, slice_index_or, ℤ}
+use Rattle.std.specs.Prelude.{◌≡◌, ◌<◌, ◌⊎◌, ℕ, List, [], ◌∷◌, ◌++◌, All, length, slice_index_or, ℤ}
 use Rattle.homeo_meaning.specs.Serial.{values_of}
-use Rattle.homeo_plan.specs.Each.{Each, Member}
 use Rattle.homeo_plan.specs.Template.{Clause}
-use Rattle.homeo_plan.specs.Treaty.{site_sum}
+use Rattle.homeo_outline.specs.ObjectPlan.{template_in, config_in}
+use Rattle.homeo_outline.specs.declared.plan.ObjectPlan.{ObjectPlan}
+use Rattle.homeo_site.specs.OwnTreaty.{SumsFit, own_clauses}
 use Rattle.homeo_forecast.specs.Peaks.{PeaksFit}
 use Rattle.homeo_forecast.specs.Visits.{Visit}
 use Rattle.homeo_forecast.specs.declared.rooms.Room.{Room}
-use Rattle.homeo_forecast.specs.inner.Rooms.{HasRoom, HaveRooms}
-use Rattle.homeo_forecast.specs.inner.Sums.{terms_at, own_at, term_sum, CanSum}
+use Rattle.homeo_forecast.specs.inner.Rooms.{HasRoom, AreRooms}
 
--- the visits so far fit, and the site's sums can be computed
-pub record CanTest (rs : List Room) (site : ℕ) (deltas : List ℤ) : Type 0 where
-  pub sites : ℕ
+-- the visit after which a site has these deltas
+abbrev pub own_visit : ℕ → List ℤ → Visit
+own_visit site deltas = record { site = site; deltas = values_of deltas }
+
+-- these visits, and then that one
+abbrev pub with_own : List Visit → ℕ → List ℤ → List Visit
+with_own vs site deltas = vs ++ own_visit site deltas ∷ []
+
+-- a site of the plan has deltas whose sums can be computed
+pub record CanSum (p : ObjectPlan) (site : ℕ) (deltas : List ℤ) : Type 0 where
+  pub below : site < p.outline.value.sites
+  pub fit : All (λ c. SumsFit c.terms (values_of deltas)) (own_clauses site (template_in p).clauses (config_in p))
+
+-- so does a site that makes one visit more, behind visits that fit
+pub record CanTest (p : ObjectPlan) (rs : List Room) (site : ℕ) (deltas : List ℤ) : Type 0 where
+  pub sums : CanSum p site deltas
   pub visits : List Visit
-  pub clauses : List Clause
-  pub rooms : HaveRooms sites visits clauses rs
-  pub below : site < sites
-  pub fit : PeaksFit sites visits clauses
-  pub sums : Each (λ c. CanSum (terms_at site c.terms) (values_of deltas)) clauses
+  pub rooms : AreRooms p visits rs
+  pub fit : PeaksFit p.outline.value.sites visits (template_in p).clauses
 
--- the sums of a site over its deltas, by the rooms of these numbers
-pub record AreSums (rs : List Room) (site : ℕ) (deltas : List ℤ) (ns : List ℕ) (sums : List ℤ) : Type 0 where
-  pub count : length sums ≡ length ns
-  pub each : (j d : ℕ) (e : ℤ) (r : Room) → j < length ns → slice_index_or sums j e ≡
-      term_sum (own_at (slice_index_or rs (slice_index_or ns j d) r).own.items site) (values_of deltas)
+-- each room has taken visits vs, and the site's visit too or not yet
+pub record EitherRooms (p : ObjectPlan) (vs : List Visit) (site : ℕ) (deltas : List ℤ) (rs : List Room) : Type 0 where
+  pub count : length rs ≡ length (template_in p).clauses
+  pub each : (n : ℕ) (c : Clause) (r : Room) → n < length (template_in p).clauses →
+      HasRoom p.outline.value.sites vs (slice_index_or (template_in p).clauses n c) (slice_index_or rs n r) ⊎
+      HasRoom p.outline.value.sites (with_own vs site deltas) (slice_index_or (template_in p).clauses n c) (slice_index_or rs n r)
 
--- the sums of a site at a visit, in the clauses of these numbers
-pub record AreSiteSums (site : ℕ) (v : Visit) (cs : List Clause) (ns : List ℕ) (sums : List ℤ) : Type 0 where
-  pub count : length sums ≡ length ns
-  pub each : (j d : ℕ) (e : ℤ) (c : Clause) → j < length ns → slice_index_or sums j e ≡
-      site_sum site (slice_index_or cs (slice_index_or ns j d) c).terms v.deltas
+-- from one list of rooms to the next no room has lost a visit, and those that were looked at have the site's
+pub record Raises (p : ObjectPlan) (vs : List Visit) (site : ℕ) (deltas : List ℤ) (Looked : ℕ → Type 0) (old new : List Room) : Type 0 where
+  pub either : EitherRooms p vs site deltas old → EitherRooms p vs site deltas new
+  pub stays : (n : ℕ) (c : Clause) (r : Room) → EitherRooms p vs site deltas old → n < length (template_in p).clauses →
+      HasRoom p.outline.value.sites (with_own vs site deltas) (slice_index_or (template_in p).clauses n c) (slice_index_or old n r) →
+      HasRoom p.outline.value.sites (with_own vs site deltas) (slice_index_or (template_in p).clauses n c) (slice_index_or new n r)
+  pub raised : (n : ℕ) (c : Clause) (r : Room) → EitherRooms p vs site deltas old → n < length (template_in p).clauses → Looked n →
+      HasRoom p.outline.value.sites (with_own vs site deltas) (slice_index_or (template_in p).clauses n c) (slice_index_or new n r)
 
--- and one visit more fits, with these sums at this site
-pub record CanRaise (rs : List Room) (site : ℕ) (ns : List ℕ) (sums : List ℤ) : Type 0 where
-  pub deltas : List ℤ
-  pub test : CanTest rs site deltas
-  pub visit : Visit
-  pub at : visit.site ≡ site
-  pub are : AreSiteSums site visit test.clauses ns sums
-  pub fit : PeaksFit test.sites (test.visits ++ visit ∷ []) test.clauses
-
--- the rooms of these numbers have taken the visit v
-pub record SomeRaised (k : ℕ) (vs : List Visit) (v : Visit) (cs : List Clause) (ns : List ℕ) (rs : List Room) : Type 0 where
-  pub count : length rs ≡ length cs
-  pub each : (n : ℕ) (c : Clause) (r : Room) → n < length cs →
-      HasRoom k vs (slice_index_or cs n c) (slice_index_or rs n r) ⊎ HasRoom k (vs ++ v ∷ []) (slice_index_or cs n c) (slice_index_or rs n r)
-  pub raised : (n : ℕ) (c : Clause) (r : Room) → Member n ns → n < length cs →
-      HasRoom k (vs ++ v ∷ []) (slice_index_or cs n c) (slice_index_or rs n r)
+-- all visits fit, with the site's too
+pub record CanRaise (p : ObjectPlan) (rs : List Room) (site : ℕ) (deltas : List ℤ) : Type 0 where
+  pub sums : CanSum p site deltas
+  pub visits : List Visit
+  pub rooms : EitherRooms p visits site deltas rs
+  pub before : PeaksFit p.outline.value.sites visits (template_in p).clauses
+  pub after : PeaksFit p.outline.value.sites (with_own visits site deltas) (template_in p).clauses

@@ -1,14 +1,22 @@
--- What stops a visit at one clause or freeze, and the first of several that does.
-use Rattle.std.specs.Prelude.{ℕ, ◌==◌, ◌-◌, cond, List, [], ◌∷◌, slice_index_or, pos, int_le, ◌&&◌, not, Option, Some, None}
+-- What stops a visit at one clause or freeze, by its number.
+use Rattle.std.specs.Prelude.{ℕ, ◌==◌, ◌-◌, nat_lt, cond, List, [], length, slice_index_or, pos, int_le, ◌≤ℤ◌, ◌&&◌, not, Option, Some, None}
 use Rattle.std.specs.Ordering.{int_eq}
 use Rattle.homeo_plan.specs.declared.forms.Delta.{Delta}
 use Rattle.homeo_plan.specs.Config.{total}
 use Rattle.homeo_plan.specs.Joined.{Deltas}
 use Rattle.homeo_plan.specs.Linear.{delta_of}
 use Rattle.homeo_plan.specs.Template.{Clause}
+use Rattle.homeo_plan.specs.Treaty.{site_sum, KeepsFreezes}
+use Rattle.homeo_outline.specs.ObjectPlan.{template_in}
+use Rattle.homeo_outline.specs.declared.plan.ObjectPlan.{ObjectPlan}
 use Rattle.homeo_forecast.specs.Key.{definitions}
-use Rattle.homeo_forecast.specs.Peaks.{Stop, Spent, Frozen, peaks}
+use Rattle.homeo_forecast.specs.Peaks.{Stop, Spent, Frozen, PeaksFit, peak, peaks}
 use Rattle.homeo_forecast.specs.Visits.{Visit}
+
+-- the number of what stops
+abbrev pub stop_number : Stop → ℕ
+stop_number (Spent n ps slack) = n
+stop_number (Frozen n d value) = n
 
 -- a clause of number n whose peaks after visits of k sites sum to more than its slack
 abbrev pub clause_stop : ℕ → List Visit → ℕ → Clause → Option Stop
@@ -30,14 +38,15 @@ abbrev pub freeze_stop_at : ℕ → ℕ → Deltas → List Delta → ℕ → Op
 unfolding definitions
 freeze_stop_at f i x ds n = freeze_stop n i x (slice_index_or ds (n - f) (delta_of 0 0))
 
--- the first, or else the second
-abbrev pub first_of : Option Stop → Option Stop → Option Stop
+-- by a plan, after visits of which the last is v
+abbrev pub plan_stop : ObjectPlan → List Visit → Visit → ℕ → Option Stop
 unfolding definitions
-first_of None next = next
-first_of (Some s) next = Some s
+plan_stop p vs v n =
+    cond (nat_lt n (length (template_in p).clauses)) (clause_stop_at p.outline.value.sites vs (template_in p).clauses n)
+    (freeze_stop_at (length (template_in p).clauses) v.site v.deltas (template_in p).freezes n)
 
--- the first stop among numbers, one after another
-abbrev pub first_among : (ℕ → Option Stop) → List ℕ → Option Stop
-unfolding definitions
-first_among stop_of [] = None
-first_among stop_of (n ∷ ns) = first_of (stop_of n) (first_among stop_of ns)
+-- after visits that fit a site has deltas x, which keep the freezes and no sum of which is above its peak
+pub record StandsAfter (p : ObjectPlan) (vs : List Visit) (site : ℕ) (x : Deltas) : Type 0 where
+  pub fit : PeaksFit p.outline.value.sites vs (template_in p).clauses
+  pub low : (c : Clause) → site_sum site c.terms x ≤ℤ peak c.terms site vs
+  pub freezes : KeepsFreezes site x (template_in p).freezes

@@ -11,6 +11,10 @@ use Rattle.homeo_plan.specs.Linear.{delta_of}
 use Rattle.homeo_site.specs.Key.{definitions}
 use Rattle.homeo_site.specs.OwnTreaty.{OwnClause, own_sum}
 
+-- the number of what fails
+abbrev pub clause_number : Broken → ℕ
+clause_number b = b.clause
+
 -- a sum above the bound fails
 abbrev pub sum_failure : ℕ → ℤ → ℤ → Option Broken
 unfolding definitions
@@ -45,18 +49,6 @@ failure_from n i x (c ∷ cs) (b ∷ bs) ds (suc m) = failure_from (suc n) i x c
 abbrev pub failure_at : Template → Config → ℕ → Deltas → ℕ → Option Broken
 unfolding definitions
 failure_at t config i x m = failure_from 0 i x t.clauses config t.freezes m
-
--- the first, or else the second
-abbrev pub first_of : Option Broken → Option Broken → Option Broken
-unfolding definitions
-first_of None next = next
-first_of (Some f) next = Some f
-
--- the first that fails of numbers, one after another
-abbrev pub first_failure : (ℕ → Option Broken) → List ℕ → Option Broken
-unfolding definitions
-first_failure failure [] = None
-first_failure failure (n ∷ ns) = first_of (failure n) (first_failure failure ns)
 
 -- ---- what a site keeps of the treaty
 -- what fails at a number of a site's own clauses

@@ -1,20 +1,12 @@
 -- What a site keeps of a treaty in the round of a plan.
 use Rattle.std.specs.Prelude.{ℕ, ◌<◌}
 use Rattle.homeo_meaning.specs.Small.{IsSmall}
-use Rattle.homeo_plan.specs.declared.forms.Term.{Term}
 use Rattle.homeo_plan.specs.Config.{HaveSlack}
 use Rattle.homeo_plan.specs.Each.{Each}
 use Rattle.homeo_plan.specs.Limit.{form_limit}
 use Rattle.homeo_outline.specs.Leaders.{Lead}
 use Rattle.homeo_outline.specs.ObjectPlan.{template_with}
 use Rattle.homeo_outline.specs.declared.plan.ObjectPlan.{ObjectPlan}
-use Rattle.homeo_site.specs.Key.{definitions}
-use Rattle.homeo_site.specs.OwnTreaty.{OwnTerm}
-
--- a term over whole objects, as it stands on a site's own delta
-abbrev pub own_term : Term → OwnTerm
-unfolding definitions
-own_term t = record { object = t.delta.object; factor = t.factor }
 
 -- site i is one of the plan's, the slacks are small, none of them negative, and the leaders lead the clauses
 pub record CanKeep (p : ObjectPlan) (i : ℕ) : Type 0 where

@@ -4,16 +4,17 @@ use Rattle.homeo_meaning.specs.Serial.{values_of}
 use Rattle.homeo_outline.specs.Numbers.{has, clauses_on}
 use Rattle.homeo_outline.specs.ObjectPlan.{template_in, config_in}
 use Rattle.homeo_outline.specs.Outlined.{Outlined}
+use Rattle.homeo_site.specs.Earliest.{IsEarliest}
 use Rattle.homeo_site.specs.OwnTreaty.{own_clauses}
-use Rattle.homeo_site.specs.inner.Earliest.{IsEarliest}
-use Rattle.homeo_site.specs.inner.Failures.{own_failure}
-use Rattle.homeo_site.proofs.PlanChecks.{freeze_numbers, fails_on}
+use Rattle.homeo_site.specs.inner.Failures.{clause_number, own_failure}
+use Rattle.homeo_site.proofs.OnObjects.{freeze_numbers}
+use Rattle.homeo_site.proofs.PlanChecks.{fails_on}
 use Rattle.homeo_site.proofs.own_treaty.failure_on.Goals as goal
 
 pub earliest_freeze-freeze-requires : goal.earliest_freeze-freeze-requires
 earliest_freeze-freeze-requires c =
-    freeze_numbers c.args.plan.now c.args.site (values_of c.args.deltas.now) c.args.object _ [] c.freezes_on.result.now c.freezes.result.now
-    c.terms.result.now c.deref-outline.ensures c.freezes_on.ensures c.freezes.ensures c.terms.ensures
+    freeze_numbers c.args.plan.now c.args.object _ [] c.freezes_on.result.now c.freezes.result.now c.terms.result.now c.deref-outline.ensures
+    c.freezes_on.ensures c.freezes.ensures c.terms.ensures
 
 pub returns : goal.returns
 returns c =
@@ -24,7 +25,7 @@ returns c =
     let kept = own_clauses c.args.site (template_in p).clauses (config_in p) in
     let clause = c.clause_failure_on-clause.result in
     let of_clauses =
-    subst (λ (q : Outlined). IsEarliest (own_failure kept y) (λ n. has n (clauses_on c.args.object q.terms) ≡ true) clause) (sym is)
+    subst (λ (q : Outlined). IsEarliest clause_number (own_failure kept y) (λ n. has n (clauses_on c.args.object q.terms) ≡ true) clause) (sym is)
     c.clause_failure_on-clause.ensures in
     fails_on p c.args.site y c.args.object o (clauses_on c.args.object o.terms) c.freezes_on.result.now
     c.freezes.result.now c.terms.result.now is c.freezes_on.ensures c.freezes.ensures c.terms.ensures
