@@ -2,7 +2,7 @@
 use Rattle.std.proofs.Common.{◌≡◌, ◌+◌, true, get_or, take, subst}
 use Rattle.std.proofs.lemmas.List.{take_all}
 use Rattle.homeo_outline.specs.Numbers.{has}
-use Rattle.homeo_site.proofs.Numbered.{more_numbers}
+use Rattle.homeo_outline.proofs.Numbers.{more_numbers}
 use Rattle.homeo_forecast.specs.inner.Raising.{Raises}
 use Rattle.homeo_forecast.proofs.RoomLists.{no_raise, still_can, more_raised}
 use Rattle.homeo_forecast.proofs.raising.raise_clauses.Goals as goal
