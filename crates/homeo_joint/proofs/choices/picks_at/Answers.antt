@@ -9,30 +9,25 @@ use Rattle.homeo_joint.proofs.choices.picks_at.Goals as goal
 pub nonzero_div-before : goal.nonzero_div-before
 nonzero_div-before c =
     let so_far = c.loop-rows in
-    alike_positive c.args.tables.now so_far.rows-index c.rows-item.result c.requires.some c.loop-rows-test.true c.rows-item.is _ _
-    so_far.invariant.alike c.len.ensures
+    alike_positive c.args.counts.now so_far.rows-index c.rows-item.result c.requires.some c.loop-rows-test.true c.rows-item.is _ so_far.invariant.alike
 
 pub nonzero_rem-before : goal.nonzero_rem-before
 nonzero_rem-before c =
     let so_far = c.loop-rows in
-    alike_positive c.args.tables.now so_far.rows-index c.rows-item.result c.requires.some c.loop-rows-test.true c.rows-item.is _ _
-    so_far.invariant.alike c.len.ensures
+    alike_positive c.args.counts.now so_far.rows-index c.rows-item.result c.requires.some c.loop-rows-test.true c.rows-item.is _ so_far.invariant.alike
 
 pub loop-rows-preserved : goal.loop-rows-preserved
 loop-rows-preserved c =
     let so_far = c.loop-rows in
-    let tables = c.args.tables.now in
+    let counts = c.args.counts.now in
     let within : c.loop-rows.alike ≤ 1024 = so_far.invariant.within in
-    let positive = alike_positive tables so_far.rows-index c.rows-item.result c.requires.some c.loop-rows-test.true c.rows-item.is _ _
-    so_far.invariant.alike c.len.ensures in
+    let positive = alike_positive counts so_far.rows-index c.rows-item.result c.requires.some c.loop-rows-test.true c.rows-item.is _ so_far.invariant.alike in
     record {
-      alike =
-          alike-more tables so_far.rows-index c.rows-item.result c.requires.some c.loop-rows-test.true c.rows-item.is _ _
-          so_far.invariant.alike c.len.ensures;
-      within = omega (arith, div-le_self c.loop-rows.alike c.len.result);
+      alike = alike-more counts so_far.rows-index c.rows-item.result c.requires.some c.loop-rows-test.true c.rows-item.is _ so_far.invariant.alike;
+      within = omega (arith, div-le_self c.loop-rows.alike c.rows-item.result);
       before = mod_below so_far.before _ positive;
       picks =
-          picks-more tables so_far.rows-index c.rows-item.result c.requires.some c.loop-rows-test.true c.rows-item.is _ _ _
-          so_far.invariant.alike c.len.ensures within so_far.invariant.before _ _ _ so_far.invariant.picks
+          picks-more counts so_far.rows-index c.rows-item.result c.requires.some c.loop-rows-test.true c.rows-item.is _ _
+          so_far.invariant.alike within so_far.invariant.before _ _ _ so_far.invariant.picks
           (ap (λ l. l.items) c.in_ok-push.ensures.ok);
     }

@@ -1,7 +1,7 @@
 -- One factor more, and no product is larger than the whole.
-use Rattle.std.proofs.Common.{◌<◌, ◌^◌, map, rules, arith, sym, ap, subst, ◌∙◌}
+use Rattle.std.proofs.Common.{◌<◌, ◌^◌, map, rules, sym, ap, subst, ◌∙◌}
 use Rattle.homeo_syntax.specs.Low.{Seq}
-use Rattle.homeo_syntax.specs.LowView.{low_commands, plain_lcond, plain_lcommand}
+use Rattle.homeo_syntax.specs.LowView.{low_commands, plain_lcommand}
 use Rattle.homeo_syntax.proofs.LowViews.{low_Seq, low_If}
 use Rattle.homeo_syntax.proofs.Measures.{low_command_parts}
 use Rattle.homeo_meaning.specs.LowSizes.{rows}

@@ -1,5 +1,5 @@
 -- Each row that is reached is copied.
-use Rattle.std.proofs.Common.{◌++◌, ◌∷◌, map, length, refl, sym, ap, ◌∙◌}
+use Rattle.std.proofs.Common.{◌++◌, ◌∷◌, map, length, sym, ap, ◌∙◌}
 use Rattle.std.proofs.lemmas.List.{length-map}
 use Rattle.homeo_syntax.specs.LowView.{plain_lcommand}
 use Rattle.homeo_plan.specs.PlanView.{plain_row}

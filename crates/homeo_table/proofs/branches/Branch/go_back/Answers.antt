@@ -1,11 +1,7 @@
 -- What stands before the mark, and then the condition that failed.
-use Rattle.std.proofs.Common.{◌∷◌, [], map, sym, ap, ◌∙◌}
 use Rattle.std.proofs.lemmas.Result.{on_ok_weaker}
-use Rattle.homeo_syntax.specs.LowView.{plain_lcond, plain_lcommand}
-use Rattle.homeo_plan.specs.Table.{last_row, test_before, otherwise}
-use Rattle.homeo_table.specs.Partings.{tests_of, commands_of, row_from, left_before, rows_from}
+use Rattle.homeo_table.specs.Partings.{tests_of, commands_of, rows_from}
 use Rattle.homeo_table.specs.inner.Branches.{left_of, rows_of}
-use Rattle.homeo_table.specs.inner.Makings.{completed}
 use Rattle.homeo_table.proofs.Makings.{begins-same}
 use Rattle.homeo_table.proofs.Parted.{failed-rows, unasked-rows, back-front}
 use Rattle.homeo_table.proofs.branches.Branch.go_back.Goals as goal

@@ -1,5 +1,5 @@
 -- All tests and commands so far are marked.
-use Rattle.std.proofs.Common.{map, take, length, sym, ap, ◌∙◌}
+use Rattle.std.proofs.Common.{take, sym, ap, ◌∙◌}
 use Rattle.std.proofs.lemmas.List.{length-map}
 use Rattle.homeo_syntax.specs.LowView.{plain_ltest, plain_lcommand}
 use Rattle.homeo_table.specs.Partings.{tests_of, commands_of}

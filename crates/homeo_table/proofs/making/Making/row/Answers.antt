@@ -1,6 +1,6 @@
 -- The tests and the commands.
-use Rattle.std.proofs.Common.{map, ap, ap₂, ◌∙◌}
-use Rattle.homeo_syntax.specs.LowView.{low_tests, low_commands, plain_ltest, plain_lcommand}
+use Rattle.std.proofs.Common.{map, ap, ◌∙◌}
+use Rattle.homeo_syntax.specs.LowView.{low_tests, low_commands, plain_lcommand}
 use Rattle.homeo_substitution.specs.Bindings.{bound}
 use Rattle.homeo_table.specs.Partings.{tests_of, commands_of}
 use Rattle.homeo_table.specs.inner.Makings.{completed}

@@ -1,5 +1,5 @@
 -- The next branch is followed, or there is none.
-use Rattle.std.proofs.Common.{◌∷◌, reverse, sym, ap, ◌∙◌}
+use Rattle.std.proofs.Common.{◌∷◌, sym, ap, ◌∙◌}
 use Rattle.std.proofs.lemmas.List.{nil_from_length}
 use Rattle.homeo_substitution.specs.Bindings.{bound}
 use Rattle.homeo_table.specs.Partings.{tests_of, commands_of}
