@@ -1,5 +1,5 @@
 -- Products of row counts, up to a table and from it on.
-use Rattle.std.proofs.Common.{◌≡◌, ℕ, ◌+◌, ◌*◌, ◌<◌, ◌≤◌, ◌/◌, List, [], ◌∷◌, ◌++◌, take, drop, length, sym, ap, ap₂, ◌∙◌, subst, arith}
+use Rattle.std.proofs.Common.{◌≡◌, ℕ, zero, suc, ◌+◌, ◌*◌, ◌<◌, ◌≤◌, ◌/◌, List, [], ◌∷◌, ◌++◌, take, drop, length, refl, sym, ap, ap₂, ◌∙◌, subst, arith}
 use Rattle.std.specs.Prelude.{slice_index_or, Vec, vec_len}
 use Rattle.std.specs.List.{All}
 use Rattle.std.proofs.Math.Nat.{mul_assoc, one-le-mul, le-mul_of_pos_right, mul-div_cancel_left}
@@ -31,6 +31,11 @@ product_prefix ns i h =
     sym (product-append (take i ns) (drop i ns)) ∙ ap product_of (take-append-drop i ns) in
     let some : 1 ≤ product_of (drop i ns) = product_pos (drop i ns) (All-drop (λ n. 1 ≤ n) i ns h) in
     subst (λ p. product_of (take i ns) ≤ p) whole (le-mul_of_pos_right (product_of (take i ns)) some)
+
+pub item-is : (ns : List ℕ) (i d e : ℕ) → i < length ns → slice_index_or ns i d ≡ slice_index_or ns i e
+item-is [] i d e h = absurd (omega arith)
+item-is (n ∷ ns) zero d e h = refl
+item-is (n ∷ ns) (suc i) d e h = item-is ns i d e (omega arith)
 
 pub counts-drop : (ns : List ℕ) (i n : ℕ) → i < length ns → n ≡ slice_index_or ns i n → drop i ns ≡ n ∷ drop (i + 1) ns
 counts-drop ns i n h is = drop_more ns i n h ∙ ap (λ n. n ∷ drop (i + 1) ns) (sym is)
