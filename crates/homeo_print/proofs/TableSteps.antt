@@ -48,7 +48,7 @@ pub no_commands : (w : s.Workload) → commands_behind w [] ≡ []
 unfolding definitions
 no_commands w = refl
 
-pub no_command : (w : s.Workload) → commands_text w (low_commands (map (λ c. plain_lcommand c.now) [])) ≡ []
+pub no_command : (w : s.Workload) → commands_text w (low_commands (map (λ (c : Bor LCommand). plain_lcommand c.now) [])) ≡ []
 unfolding definitions syntax_definitions
 no_command w = refl
 

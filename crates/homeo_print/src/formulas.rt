@@ -2,7 +2,7 @@
 
 ghost use Rattle.std.specs.Prelude.{◌≡◌, ◌++◌, map, OnOk};
 ghost use Rattle.homeo_syntax.specs.SourceView.{plain_workload};
-ghost use Rattle.homeo_syntax.specs.LowView.{low_exprs, plain_lexpr, plain_ltest, plain_lcond};
+ghost use Rattle.homeo_syntax.specs.LowView.{low_exprs, low_tests, plain_lexpr, plain_ltest, plain_lcond};
 ghost use Rattle.homeo_print.specs.Names.{object_names};
 ghost use Rattle.homeo_print.specs.Tables.{temp_text, split_name_text, sum_text, product_text, comparison_text, test_text, cond_text};
 ghost use Rattle.homeo_print.specs.inner.Walk.{expr_text_in, sign_text};
