@@ -1,12 +1,11 @@
 -- Where a workload has no fault, no table of a ground call has too many rows.
-use Rattle.std.proofs.Common.{◌≡◌, ℕ, ◌+◌, ◌^◌, ◌<◌, ◌≤◌, Bool, true, false, ◌||◌, List, [], ◌∷◌, ◌++◌, map, length, take, get_or, Some, All, refl, sym, ap, subst, ◌∙◌, arith}
+use Rattle.std.proofs.Common.{◌≡◌, ℕ, ◌+◌, ◌^◌, ◌<◌, ◌≤◌, Bool, true, false, ◌||◌, List, [], ◌∷◌, ◌++◌, map, length, take, get_or, Some, All, Result, Ok, Err, OnOk, refl, sym, ap, subst, append_assoc, append-nil, ◌∙◌, arith}
 use Rattle.std.specs.Prelude.{slice_get, nat_lt}
 use Rattle.std.specs.List.{flat_map}
-use Rattle.std.proofs.Math.Nat.{one-le-mul}
 use Rattle.std.proofs.lemmas.Bool.Decides.{nat_tests}
 use Rattle.std.proofs.lemmas.List.{get_or-map, length-map, map-append}
 use Rattle.homeo_syntax.specs.Source as s
-use Rattle.homeo_syntax.specs.Low.{Command, Commands, Skip, Assign, Write, Print, Seq, If, NoCommand, MoreCommand}
+use Rattle.homeo_syntax.specs.Low.{Command}
 use Rattle.homeo_meaning.specs.Key.{definitions as meaning_definitions}
 use Rattle.homeo_meaning.specs.CallForm.{body_form, call_form, ground_form}
 use Rattle.homeo_meaning.specs.CallRules.{call_faults, client_faults}
@@ -16,7 +15,7 @@ use Rattle.homeo_meaning.specs.GlobalNames.{SitedCall, scope_of, called, transac
 use Rattle.homeo_meaning.specs.Ground.{Ground, plain_ground, sited_call, ground_of_sited, grounds}
 use Rattle.homeo_meaning.specs.declared.call.GroundCall.{GroundCall}
 use Rattle.homeo_meaning.specs.ListRules.{when}
-use Rattle.homeo_meaning.specs.LowSizes.{rows, rows_all}
+use Rattle.homeo_meaning.specs.LowSizes.{rows}
 use Rattle.homeo_meaning.specs.NumberRules.{ground_calls, site_faults}
 use Rattle.homeo_meaning.specs.SizeRules.{too_many_rows}
 use Rattle.homeo_meaning.specs.TransactionRules.{each_from}
@@ -29,14 +28,17 @@ use Rattle.homeo_meaning.proofs.SoundRules.{all_none, all_more, names_one, named
 use Rattle.homeo_meaning.proofs.TransactionPlaces.{transaction_place}
 use Rattle.homeo_plan.specs.Key.{definitions as plan_definitions}
 use Rattle.homeo_plan.specs.Planned.{sites_of, planned_call}
+use Rattle.homeo_plan.specs.Table.{Row}
 use Rattle.homeo_plan.specs.Template.{shifted}
 use Rattle.homeo_plan.proofs.PlannedCalls.{every_both, every_distinct}
 use Rattle.homeo_plan.proofs.RowCounts.{rows_shift}
-use Rattle.homeo_print.specs.Tables.{call_table, table_text}
+use Rattle.homeo_print.specs.Key.{definitions as print_definitions}
+use Rattle.homeo_print.specs.Tables.{call_table, row_text, rows_text, table_text, joint_text}
 use Rattle.homeo_print.proofs.OneMore.{views_more, numbered_more}
 use Rattle.homeo_commands.specs.inner.Key.{definitions}
-use Rattle.homeo_commands.specs.inner.Tabulated.{HasFewRows, calls_text}
+use Rattle.homeo_commands.specs.inner.Tabulated.{HasFewRows, AddsJoint, calls_text, rows_from}
 use Rattle.homeo_order.proofs.Accepting.{few_from}
+use Rattle.homeo_table.proofs.RowCounting.{some_rows}
 
 -- ---- each call names a transaction
 abbrev IsNamed : s.Workload → SitedCall → Type 0
@@ -117,23 +119,7 @@ grounds_few w none =
     let few = few_from 1024 (λ (c : SitedCall). c.name) [] (ground_calls w) (omega arith) limits.grounds in
     omega (arith, few, length-map (ground_calls w) (ground_of_sited w))
 
--- ---- tables that are not empty
-mutual
-  unfolding meaning_definitions
-
-  -- no table is empty
-  pub some_rows : (c : Command) → 1 ≤ rows c
-  some_rows Skip = omega arith
-  some_rows (Assign t e) = omega arith
-  some_rows (Write x e) = omega arith
-  some_rows (Print e) = omega arith
-  some_rows (Seq cs) = some_rows_all cs
-  some_rows (If b c d) = let here = some_rows c in omega (arith, here)
-
-  some_rows_all : (cs : Commands) → 1 ≤ rows_all cs
-  some_rows_all NoCommand = omega arith
-  some_rows_all (MoreCommand c cs) = one-le-mul (some_rows c) (some_rows_all cs)
-
+-- ---- rows of a call
 -- the table of a command of few rows has one, and not too many
 pub rows_counted :
     (w : s.Workload) (g : Ground) (c : Command) (n : ℕ) → HasFewRows w g → c ≡ shifted (sites_of w) (planned_call w g) → n ≡ rows c → (1 ≤ n) × (n < 2 ^ 32)
@@ -151,12 +137,15 @@ pub texts_more :
 unfolding definitions
 texts_more w calls i g within is = numbered_more (λ n g. table_text w n g (call_table w g)) plain_ground calls i g within is
 
-pub tables_more :
+pub counts_more :
     (w : s.Workload) (calls : List GroundCall) (i : ℕ) (g : GroundCall) → i < length calls → g ≡ get_or calls i g →
-    map (call_table w) (map plain_ground (take (i + 1) calls)) ≡
-    map (call_table w) (map plain_ground (take i calls)) ++ call_table w (plain_ground g) ∷ []
-tables_more w calls i g within is =
-    ap (map (call_table w)) (views_more plain_ground calls i g within is) ∙ map-append (call_table w) (map plain_ground (take i calls)) (plain_ground g ∷ [])
+    map length (map (call_table w) (map plain_ground (take (i + 1) calls))) ≡
+    map length (map (call_table w) (map plain_ground (take i calls))) ++ length (call_table w (plain_ground g)) ∷ []
+counts_more w calls i g within is =
+    let before = map plain_ground (take i calls) in
+    ap (λ gs. map length (map (call_table w) gs)) (views_more plain_ground calls i g within is)
+    ∙ ap (map length) (map-append (call_table w) before (plain_ground g ∷ []))
+    ∙ map-append length (map (call_table w) before) (call_table w (plain_ground g) ∷ [])
 
 pub few_here :
     (w : s.Workload) (calls : List GroundCall) (i : ℕ) (g : GroundCall) → i < length calls → g ≡ get_or calls i g →
@@ -164,3 +153,32 @@ pub few_here :
 few_here w calls i g within is all =
     let here : i < length (map plain_ground calls) = omega (arith, length-map calls plain_ground, within) in
     subst (HasFewRows w) (get_or-map plain_ground calls i g (plain_ground g) within ∙ ap plain_ground (sym is)) (all i (plain_ground g) here)
+
+-- ---- one row more
+pub row_next :
+    (w : s.Workload) (n : ℕ) (r s : Row) (rest all : List Row) (out more start text : List ℕ) → all ≡ s ∷ rest → r ≡ s → more ≡ out ++ row_text w n r →
+    out ++ rows_from w n all ≡ start ++ text → more ++ rows_from w (n + 1) rest ≡ start ++ text
+unfolding definitions
+row_next w n r s rest all out more start text e is put so_far =
+    ap (λ l. l ++ rows_from w (n + 1) rest) put ∙ append_assoc out (row_text w n r) (rows_from w (n + 1) rest)
+    ∙ ap (λ r. out ++ (row_text w n r ++ rows_from w (n + 1) rest)) is ∙ ap (λ all. out ++ rows_from w n all) (sym e) ∙ so_far
+
+pub rows_end : (w : s.Workload) (n : ℕ) (all : List Row) (out whole : List ℕ) → all ≡ [] → out ++ rows_from w n all ≡ whole → out ≡ whole
+unfolding definitions
+rows_end w n all out whole e so_far = sym (append-nil out) ∙ ap (λ all. out ++ rows_from w n all) (sym e) ∙ so_far
+
+pub rows_start : (w : s.Workload) (out : List ℕ) (all t : List Row) → all ≡ t → out ++ rows_from w 0 all ≡ out ++ rows_text w t
+unfolding definitions print_definitions
+rows_start w out all t e = ap (λ all. out ++ rows_from w 0 all) e
+
+-- ---- the joint table
+pub on_ok_all : {T E A : Type 0} (r : Result T E) (P : A → Type 0) → ((a : A) → OnOk r (P a)) → OnOk r ((a : A) → P a)
+on_ok_all (Ok x) P h = h
+on_ok_all (Err e) P h = tt
+
+pub adds_joint :
+    {T E : Type 0} (r : Result T E) (counts before after : List ℕ) →
+    ((tables : List (List Row)) → map length tables ≡ counts → OnOk r (after ≡ before ++ joint_text tables)) → OnOk r (AddsJoint counts before after)
+adds_joint r counts before after h =
+    on_ok_all r (λ tables. map length tables ≡ counts → after ≡ before ++ joint_text tables)
+    (λ tables. on_ok_all r (λ is. after ≡ before ++ joint_text tables) (h tables))

@@ -1,23 +1,26 @@
 //! The symbolic tables of a workload's ground calls, and their joint table, as a text.
 
-ghost use Rattle.std.specs.Prelude.{◌≡◌, ◌<◌, ◌≤◌, ◌^◌, ◌++◌, [], All, map, length, vec_len, IfOk, OnOk};
+ghost use Rattle.std.specs.Prelude.{◌≡◌, ◌<◌, ◌≤◌, ◌^◌, ◌++◌, [], All, map, length, IfOk, OnOk};
+ghost use Rattle.homeo_syntax.specs.LowView.{plain_lcommand};
 ghost use Rattle.homeo_syntax.specs.SourceView.{plain_workload};
 ghost use Rattle.homeo_meaning.specs.declared.call.Purpose.TheVariants as purpose;
 ghost use Rattle.homeo_meaning.specs.Faults.{faults};
 ghost use Rattle.homeo_meaning.specs.Ground.{grounds};
-ghost use Rattle.homeo_joint.specs.Counts.{plain_table};
+ghost use Rattle.homeo_meaning.specs.LowSizes.{rows};
+ghost use Rattle.homeo_plan.specs.Table.{table};
 ghost use Rattle.homeo_print.specs.Names.{object_names};
-ghost use Rattle.homeo_print.specs.Tables.{call_table, joint_text, tables_text};
-ghost use Rattle.homeo_commands.specs.inner.Tabulated.{HasFewRows, calls_text};
+ghost use Rattle.homeo_print.specs.Tables.{call_table, rows_text, tables_text};
+ghost use Rattle.homeo_commands.specs.inner.Tabulated.{HasFewRows, AddsJoint, calls_text};
 
 use homeo_build::Compiled;
 use homeo_build::compile::compile;
-use homeo_joint::{JointError, joint};
+use homeo_joint::{JointError, joint_of_counts};
 use homeo_meaning::Accepted;
-use homeo_plan::Row;
-use homeo_print::{ObjectNames, print_joint, print_table, print_too_many_choices};
-use homeo_syntax::Memory;
-use homeo_table::table;
+use homeo_print::{
+    ObjectNames, print_joint, print_row, print_table_heading, print_too_many_choices,
+};
+use homeo_syntax::{LCommand, Memory, Workload};
+use homeo_table::{Rows, row_count};
 use std::alloc::Global;
 
 /// The tables of a workload's ground calls, one after another, and their joint table behind them.
@@ -35,40 +38,62 @@ fn compiled_tables(alloc: Global, c: &Compiled) -> Result<Vec<u8>, Memory>
     ensures { IfOk result (λ bytes. bytes.items ≡ tables_text (plain_workload c.now)) }
 {
     let mut out = Vec::new(alloc);
-    let tables = push_calls(alloc, &mut out, c)?;
-    push_joint(alloc, &mut out, tables.as_slice())?;
+    let counts = push_calls(alloc, &mut out, c)?;
+    push_joint(alloc, &mut out, counts.as_slice())?;
     Ok(out)
 }
 
-// Appends the table of each ground call, and gives these tables.
-fn push_calls(alloc: Global, out: &mut Vec<u8>, c: &Compiled) -> Result<Vec<Vec<Row>>, Memory>
+// Appends the table of each ground call, and gives how many rows each has.
+fn push_calls(alloc: Global, out: &mut Vec<u8>, c: &Compiled) -> Result<Vec<u64>, Memory>
     requires few { All (HasFewRows (plain_workload c.now)) (grounds (plain_workload c.now)) }
     ensures text { OnOk result (out.new.items ≡ out.old.items ++ calls_text (plain_workload c.now) (grounds (plain_workload c.now))) }
-    ensures tables { IfOk result (λ ts. map plain_table ts.items ≡ map (call_table (plain_workload c.now)) (grounds (plain_workload c.now))) }
-    ensures some { IfOk result (λ ts. All (λ t. 1 ≤ vec_len t) ts.items) }
-    ensures counted { IfOk result (λ ts. All (λ t. vec_len t < 2 ^ 32) ts.items) }
+    ensures counts { IfOk result (λ ns. map length (map (call_table (plain_workload c.now)) (grounds (plain_workload c.now))) ≡ ns.items) }
+    ensures some { IfOk result (λ ns. All (λ n. 1 ≤ n) ns.items) }
+    ensures counted { IfOk result (λ ns. All (λ n. n < 2 ^ 32) ns.items) }
 {
     let w = c.workload().workload();
     let objects = ObjectNames::of(alloc, w)?;
     let calls = c.calls();
-    let mut tables = Vec::new(alloc);
+    let mut counts = Vec::new(alloc);
     for (number, call) in calls.iter().enumerate() {
         let command = c.command(alloc, number)?;
-        let rows = table(alloc, &command)?;
-        print_table(out, w, &objects, number as u64, call, rows.as_slice())?;
-        tables.push(rows)?;
+        let rows = row_count(&command);
+        print_table_heading(out, w, number as u64, call, rows)?;
+        push_rows(alloc, out, w, &objects, &command)?;
+        counts.push(rows)?;
     }
-    Ok(tables)
+    Ok(counts)
 }
 
-// Appends the joint table of tables, or that it has too many rows.
-fn push_joint(alloc: Global, out: &mut Vec<u8>, tables: &[Vec<Row>]) -> Result<(), Memory>
-    requires few { length tables.now < 2 ^ 32 }
-    requires some { All (λ t. 1 ≤ vec_len t) tables.now }
-    requires counted { All (λ t. vec_len t < 2 ^ 32) tables.now }
-    ensures { OnOk result (out.new.items ≡ out.old.items ++ joint_text (map plain_table tables.now)) }
+// Appends the rows of a command's table, each as it is reached.
+fn push_rows(
+    alloc: Global,
+    out: &mut Vec<u8>,
+    w: &Workload,
+    objects: &ObjectNames,
+    c: &LCommand,
+) -> Result<(), Memory>
+    requires named { objects.now ≡ object_names (plain_workload w.now) }
+    requires few { rows (plain_lcommand c.now) < 2 ^ 32 }
+    ensures { OnOk result (out.new.items ≡ out.old.items ++ rows_text (plain_workload w.now) (table (plain_lcommand c.now))) }
 {
-    match joint(alloc, tables) {
+    let mut rows = Rows::of(alloc, c)?;
+    let mut number = 0;
+    while rows.next(alloc)? {
+        print_row(out, w, objects, number, rows.formula(), rows.residual())?;
+        number += 1;
+    }
+    Ok(())
+}
+
+// Appends the joint table of tables of so many rows, or that it has too many rows.
+fn push_joint(alloc: Global, out: &mut Vec<u8>, counts: &[u64]) -> Result<(), Memory>
+    requires few { length counts.now < 2 ^ 32 }
+    requires some { All (λ n. 1 ≤ n) counts.now }
+    requires counted { All (λ n. n < 2 ^ 32) counts.now }
+    ensures { OnOk result (AddsJoint counts.now out.old.items out.new.items) }
+{
+    match joint_of_counts(alloc, counts) {
         Ok(rows) => print_joint(out, rows.as_slice()),
         Err(JointError::TooMany { .. }) => print_too_many_choices(out),
         Err(JointError::Memory) => Err(Memory),

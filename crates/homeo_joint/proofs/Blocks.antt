@@ -89,19 +89,18 @@ joint-digits (t ∷ ts) =
 
 -- ---- a joint row's picks, and the joint rows
 pub picks-more :
-    {A : Type 0} (ts : List (Vec rows.Row A)) (i : ℕ) (t : Vec rows.Row A) → All (λ t. 1 ≤ vec_len t) ts → i < length ts →
-    t ≡ slice_index_or ts i t → (a n b : ℕ) → a ≡ product_of (drop i (row_counts ts)) → n ≡ vec_len t → a ≤ 1024 → b < a →
-    (before after whole : List ℤ) → before ++ map pos (digits (drop i (row_counts ts)) b) ≡ whole →
+    (ns : List ℕ) (i n : ℕ) → All (λ n. 1 ≤ n) ns → i < length ns → n ≡ slice_index_or ns i n → (a b : ℕ) → a ≡ product_of (drop i ns) → a ≤ 1024 → b < a →
+    (before after whole : List ℤ) → before ++ map pos (digits (drop i ns) b) ≡ whole →
     after ≡ before ++ to_z w64 (b / (a / n)) ∷ [] →
-    after ++ map pos (digits (drop (i + 1) (row_counts ts)) (b % (a / n))) ≡ whole
-picks-more ts i t all h is a n b e len within below before after whole f made =
-    let rest : List ℕ = drop (i + 1) (row_counts ts) in
+    after ++ map pos (digits (drop (i + 1) ns) (b % (a / n))) ≡ whole
+picks-more ns i n all h is a b e within below before after whole f made =
+    let rest : List ℕ = drop (i + 1) ns in
     let q : ℕ = b / (a / n) in
     let small : q < 2 ^ 63 = omega (arith, div-le_self b (a / n)) in
     let pick : to_z w64 q ≡ pos q = to_z_pos w64 q small in
-    let alike : a / n ≡ product_of rest = alike-more ts i t all h is a n e len in
-    let split : digits (drop i (row_counts ts)) b ≡ q ∷ digits rest (b % (a / n)) =
-    ap (λ ns. digits ns b) (counts-drop ts i t h is) ∙ sym (ap (λ m. (b / m) ∷ digits rest (b % m)) alike) in
+    let alike : a / n ≡ product_of rest = alike-more ns i n all h is a e in
+    let split : digits (drop i ns) b ≡ q ∷ digits rest (b % (a / n)) =
+    ap (λ ns. digits ns b) (counts-drop ns i n h is) ∙ sym (ap (λ m. (b / m) ∷ digits rest (b % m)) alike) in
     ap₂ (λ l z. l ++ z) (made ∙ ap (λ z. before ++ z ∷ []) pick) refl
     ∙ append_assoc before (pos q ∷ []) (map pos (digits rest (b % (a / n))))
     ∙ sym (ap (λ ds. before ++ map pos ds) split)
@@ -120,15 +119,21 @@ pub rows_within :
     length (joint_picks (map plain_table ts)) ≤ limit
 rows_within ts size limit e within = let count = joint_count ts in omega (arith, count, e, within)
 
-pub rows_count :
-    {X : Type 0} (picks : X → List ℤ) (ts : List (Vec rows.Row Global)) (rs : List X) →
-    map picks rs ≡ map (map pos) (joint_picks (map plain_table ts)) → length rs ≡ product_of (row_counts ts)
-rows_count picks ts rs e =
-    sym (length-map rs picks) ∙ ap length e ∙ length-map (joint_picks (map plain_table ts)) (map pos) ∙ joint_count ts
-
+-- all numbers by their digits
 pub all_choices :
-    (ts : List (Vec rows.Row Global)) (size n : ℕ) → size ≡ product_of (row_counts ts) → n ≡ size →
-    digits_below (row_counts ts) n ≡ joint_picks (map plain_table ts)
-all_choices ts size n e f =
-    ap (digits_below (row_counts ts)) (f ∙ e) ∙ ap (λ ns. digits_below ns (product_of ns)) (counts-plain ts)
-    ∙ joint-digits (map plain_table ts)
+    (ns : List ℕ) (size : ℕ) → size ≡ product_of ns → (ts : List (List Row)) → map length ts ≡ ns → digits_below ns size ≡ joint_picks ts
+all_choices ns size e ts is =
+    ap (digits_below ns) e ∙ sym (ap (λ ns. digits_below ns (product_of ns)) is) ∙ joint-digits ts
+
+pub digits_count : (ns : List ℕ) (n : ℕ) → length (digits_below ns n) ≡ n
+digits_count ns zero = refl
+digits_count ns (suc n) =
+    let more = length-append (digits_below ns n) (digits ns n ∷ []) in
+    let before = digits_count ns n in
+    omega (arith, more, before)
+
+pub digit_rows :
+    {X : Type 0} (picks : X → List ℤ) (ns : List ℕ) (size : ℕ) (rs : List X) → size ≡ product_of ns → map picks rs ≡ map (map pos) (digits_below ns size) →
+    length rs ≡ product_of ns
+digit_rows picks ns size rs e f =
+    sym (length-map rs picks) ∙ ap length f ∙ length-map (digits_below ns size) (map pos) ∙ digits_count ns size ∙ e

@@ -1,5 +1,5 @@
 -- Products of row counts, up to a table and from it on.
-use Rattle.std.proofs.Common.{◌≡◌, ℕ, ◌+◌, ◌*◌, ◌<◌, ◌≤◌, ◌/◌, List, [], ◌∷◌, ◌++◌, take, drop, length, sym, ap, ap₂, ◌∙◌, subst, arith}
+use Rattle.std.proofs.Common.{◌≡◌, ℕ, zero, suc, ◌+◌, ◌*◌, ◌<◌, ◌≤◌, ◌/◌, List, [], ◌∷◌, ◌++◌, take, drop, length, refl, sym, ap, ap₂, ◌∙◌, subst, arith}
 use Rattle.std.specs.Prelude.{slice_index_or, Vec, vec_len}
 use Rattle.std.specs.List.{All}
 use Rattle.std.proofs.Math.Nat.{mul_assoc, one-le-mul, le-mul_of_pos_right, mul-div_cancel_left}
@@ -32,49 +32,49 @@ product_prefix ns i h =
     let some : 1 ≤ product_of (drop i ns) = product_pos (drop i ns) (All-drop (λ n. 1 ≤ n) i ns h) in
     subst (λ p. product_of (take i ns) ≤ p) whole (le-mul_of_pos_right (product_of (take i ns)) some)
 
+pub item-is : (ns : List ℕ) (i d e : ℕ) → i < length ns → slice_index_or ns i d ≡ slice_index_or ns i e
+item-is [] i d e h = absurd (omega arith)
+item-is (n ∷ ns) zero d e h = refl
+item-is (n ∷ ns) (suc i) d e h = item-is ns i d e (omega arith)
+
+pub counts-drop : (ns : List ℕ) (i n : ℕ) → i < length ns → n ≡ slice_index_or ns i n → drop i ns ≡ n ∷ drop (i + 1) ns
+counts-drop ns i n h is = drop_more ns i n h ∙ ap (λ n. n ∷ drop (i + 1) ns) (sym is)
+
 -- ---- the counts of tables
 pub count-at :
     {A : Type 0} (ts : List (Vec Row A)) (i d : ℕ) (t : Vec Row A) → i < length ts → t ≡ slice_index_or ts i t →
     slice_index_or (row_counts ts) i d ≡ vec_len t
 count-at ts i d t h is = get_or-map vec_len ts i t d h ∙ ap vec_len (sym is)
 
+pub row-counts-at :
+    {A : Type 0} (ts : List (Vec Row A)) (i : ℕ) (t : Vec Row A) (n : ℕ) → i < length ts → t ≡ slice_index_or ts i t → n ≡ vec_len t →
+    n ≡ slice_index_or (row_counts ts) i n
+row-counts-at ts i t n h is len = len ∙ sym (count-at ts i n t h is)
+
 pub counts_exist : {A : Type 0} (ts : List (Vec Row A)) (i : ℕ) → i < length ts → i < length (row_counts ts)
 counts_exist ts i h = subst (λ n. i < n) (sym (length-map ts vec_len)) h
-
-pub counts-drop :
-    {A : Type 0} (ts : List (Vec Row A)) (i : ℕ) (t : Vec Row A) → i < length ts → t ≡ slice_index_or ts i t →
-    drop i (row_counts ts) ≡ vec_len t ∷ drop (i + 1) (row_counts ts)
-counts-drop ts i t h is =
-    drop_more (row_counts ts) i 0 (counts_exist ts i h) ∙ ap (λ n. n ∷ drop (i + 1) (row_counts ts)) (count-at ts i 0 t h is)
 
 pub counts_positive : {A : Type 0} (ts : List (Vec Row A)) → All (λ t. 1 ≤ vec_len t) ts → All (λ n. 1 ≤ n) (row_counts ts)
 counts_positive ts h = All-map (λ n. 1 ≤ n) vec_len ts h
 
-pub count_positive :
-    {A : Type 0} (ts : List (Vec Row A)) (i : ℕ) (t : Vec Row A) → All (λ t. 1 ≤ vec_len t) ts → i < length ts →
-    t ≡ slice_index_or ts i t → 1 ≤ vec_len t
-count_positive ts i t all h is = subst (λ t. 1 ≤ vec_len t) (sym is) (all i t h)
-
 -- the running product with one more table
 pub size-more :
-    {A : Type 0} (ts : List (Vec Row A)) (i : ℕ) (t : Vec Row A) → i < length ts → t ≡ slice_index_or ts i t →
-    (p n : ℕ) → p ≡ product_of (take i (row_counts ts)) → n ≡ vec_len t → p * n ≡ product_of (take (i + 1) (row_counts ts))
-size-more ts i t h is p n e len =
-    ap₂ ◌*◌ e (len ∙ sym (count-at ts i 0 t h is)) ∙ sym (product-more (row_counts ts) i 0 (counts_exist ts i h))
+    (ns : List ℕ) (i : ℕ) (n : ℕ) → i < length ns → n ≡ slice_index_or ns i n → (p : ℕ) → p ≡ product_of (take i ns) →
+    p * n ≡ product_of (take (i + 1) ns)
+size-more ns i n h is p e = ap₂ ◌*◌ e is ∙ sym (product-more ns i n h)
 
 -- where it first exceeds the limit
 pub first_over :
-    {A : Type 0} (ts : List (Vec Row A)) (i : ℕ) (t : Vec Row A) → i < length ts → t ≡ slice_index_or ts i t →
-    (p n limit : ℕ) → p ≡ product_of (take i (row_counts ts)) → n ≡ vec_len t → limit < p * n → p ≤ limit →
-    (place q : ℕ) → i ≡ place → p * n ≡ q → IsFirstOver limit (row_counts ts) place q
-first_over ts i t h is p n limit e len over within place q s v =
-    let here : IsFirstOver limit (row_counts ts) i (p * n) = record {
-      exists = counts_exist ts i h;
-      value = size-more ts i t h is p n e len;
+    (ns : List ℕ) (i : ℕ) (n : ℕ) → i < length ns → n ≡ slice_index_or ns i n → (p limit : ℕ) → p ≡ product_of (take i ns) → limit < p * n → p ≤ limit →
+    (place q : ℕ) → i ≡ place → p * n ≡ q → IsFirstOver limit ns place q
+first_over ns i n h is p limit e over within place q s v =
+    let here : IsFirstOver limit ns i (p * n) = record {
+      exists = h;
+      value = size-more ns i n h is p e;
       over = over;
       before = subst (λ m. m ≤ limit) e within;
     } in
-    subst (λ k. IsFirstOver limit (row_counts ts) k q) s (subst (λ m. IsFirstOver limit (row_counts ts) i m) v here)
+    subst (λ k. IsFirstOver limit ns k q) s (subst (λ m. IsFirstOver limit ns i m) v here)
 
 -- then the whole product does
 pub whole_over :
@@ -87,17 +87,13 @@ whole_over limit ns place p all f =
 
 -- how many joint rows share one more pick
 pub alike-more :
-    {A : Type 0} (ts : List (Vec Row A)) (i : ℕ) (t : Vec Row A) → All (λ t. 1 ≤ vec_len t) ts → i < length ts →
-    t ≡ slice_index_or ts i t → (a n : ℕ) → a ≡ product_of (drop i (row_counts ts)) → n ≡ vec_len t →
-    a / n ≡ product_of (drop (i + 1) (row_counts ts))
-alike-more ts i t all h is a n e len =
-    let some : 0 < vec_len t = count_positive ts i t all h is in
-    ap₂ ◌/◌ (e ∙ ap product_of (counts-drop ts i t h is)) len
-    ∙ mul-div_cancel_left (product_of (drop (i + 1) (row_counts ts))) some
+    (ns : List ℕ) (i n : ℕ) → All (λ n. 1 ≤ n) ns → i < length ns → n ≡ slice_index_or ns i n → (a : ℕ) → a ≡ product_of (drop i ns) →
+    a / n ≡ product_of (drop (i + 1) ns)
+alike-more ns i n all h is a e =
+    let some : 0 < n = subst (λ n. 1 ≤ n) (sym is) (all i n h) in
+    ap (λ a. a / n) (e ∙ ap product_of (counts-drop ns i n h is)) ∙ mul-div_cancel_left (product_of (drop (i + 1) ns)) some
 
 pub alike_positive :
-    {A : Type 0} (ts : List (Vec Row A)) (i : ℕ) (t : Vec Row A) → All (λ t. 1 ≤ vec_len t) ts → i < length ts →
-    t ≡ slice_index_or ts i t → (a n : ℕ) → a ≡ product_of (drop i (row_counts ts)) → n ≡ vec_len t → 0 < a / n
-alike_positive ts i t all h is a n e len =
-    let rest : All (λ n. 1 ≤ n) (drop (i + 1) (row_counts ts)) = All-drop (λ n. 1 ≤ n) (i + 1) (row_counts ts) (counts_positive ts all) in
-    subst (λ p. 0 < p) (sym (alike-more ts i t all h is a n e len)) (product_pos (drop (i + 1) (row_counts ts)) rest)
+    (ns : List ℕ) (i n : ℕ) → All (λ n. 1 ≤ n) ns → i < length ns → n ≡ slice_index_or ns i n → (a : ℕ) → a ≡ product_of (drop i ns) → 0 < a / n
+alike_positive ns i n all h is a e =
+    subst (λ p. 0 < p) (sym (alike-more ns i n all h is a e)) (product_pos (drop (i + 1) ns) (All-drop (λ n. 1 ≤ n) (i + 1) ns all))

@@ -3,18 +3,18 @@
 ghost use Rattle.std.specs.Prelude.{◌≡◌, ℕ, ◌^◌, ◌<◌, ◌≤◌, map, length, vec_len, pos, ◌↔◌, IfOk, IsErrAnd};
 ghost use Rattle.std.specs.List.{All};
 ghost use Rattle.homeo_plan.specs.Joint.{joint_picks};
-ghost use Rattle.homeo_joint.specs.Counts.{plain_table, row_counts, product_of, row_limit, IsFirstOver};
+ghost use Rattle.homeo_joint.specs.Counts.{plain_table, row_counts, product_of, row_limit, ArePicks, IsFirstOver};
 ghost use Rattle.homeo_joint.specs.TooMany.{IsTooMany};
-ghost use Rattle.homeo_joint.specs.inner.Digits.{digits};
+ghost use Rattle.homeo_joint.specs.inner.Digits.{digits, digits_below};
 
-use crate::size::{JointError, joint_size};
+use crate::size::{JointError, joint_size, product_within};
 use homeo_plan::{JointRow, Row};
 use homeo_syntax::{List, Memory, Numbers};
 use std::alloc::Global;
 
 /// The joint table (Roy et al., SIGMOD 2015): a row for each choice of one row of each table, with the numbers of the
 /// chosen rows, from 0, in the order of the tables. The last table's row changes fastest (this project's rule). No tables
-/// give one row, without picks. It takes time and memory linear in the picks.
+/// give one row, without picks. It takes time and memory linear in the picks and the tables.
 ///
 /// # Errors
 ///
@@ -30,38 +30,71 @@ pub fn joint(alloc: Global, tables: &[Vec<Row>]) -> Result<Vec<JointRow>, JointE
     ensures first { (t p : ℕ) → result ≡ Err (JointError.TooMany t p) → IsFirstOver row_limit (row_counts tables.now) t p }
 {
     let size = joint_size(tables)?;
-    let rows = joint_rows(alloc, tables, size)?;
+    let counts = counts_of(alloc, tables)?;
+    let rows = joint_rows(alloc, counts.as_slice(), size)?;
     Ok(rows)
 }
 
-fn joint_rows(alloc: Global, tables: &[Vec<Row>], size: u64) -> Result<Vec<JointRow>, Memory>
-    requires some { All (λ t. 1 ≤ vec_len t) tables.now }
-    requires size { size ≡ product_of (row_counts tables.now) }
+/// The joint table of tables of which only the numbers of their rows are known. It takes time and memory linear in the picks.
+///
+/// # Errors
+///
+/// `TooMany` exactly where there are more than `MOST_ROWS` rows: the first table up to which the tables have more choices
+/// than that, and how many. Else `Memory` when out of memory.
+pub fn joint_of_counts(alloc: Global, counts: &[u64]) -> Result<Vec<JointRow>, JointError>
+    requires few { length counts.now < 2 ^ 32 }
+    requires some { All (λ n. 1 ≤ n) counts.now }
+    requires counted { All (λ n. n < 2 ^ 32) counts.now }
+    ensures picks { IfOk result (λ rows. ArePicks counts.now (map (λ r. r.picks.items) rows.items)) }
+    ensures count { IfOk result (λ rows. vec_len rows ≡ product_of counts.now) }
+    ensures within { IfOk result (λ rows. vec_len rows ≤ row_limit) }
+    ensures over { IsErrAnd result IsTooMany ↔ (row_limit < product_of counts.now) }
+    ensures first { (t p : ℕ) → result ≡ Err (JointError.TooMany t p) → IsFirstOver row_limit counts.now t p }
+{
+    let size = product_within(counts)?;
+    let rows = joint_rows(alloc, counts, size)?;
+    Ok(rows)
+}
+
+fn counts_of(alloc: Global, tables: &[Vec<Row>]) -> Result<Vec<u64>, Memory>
+    ensures { IfOk result (λ counts. counts.items ≡ row_counts tables.now) }
+{
+    let mut counts = Vec::with_capacity(alloc, tables.len())?;
+    for rows in tables {
+        counts.push(rows.len() as u64)?;
+    }
+    Ok(counts)
+}
+
+/// The rows of the joint table of tables of so many rows each, `size` in all.
+fn joint_rows(alloc: Global, counts: &[u64], size: u64) -> Result<Vec<JointRow>, Memory>
+    requires some { All (λ n. 1 ≤ n) counts.now }
+    requires size { size ≡ product_of counts.now }
     requires within { size ≤ row_limit }
-    ensures { IfOk result (λ rows. map (λ r. r.picks.items) rows.items ≡ map (map pos) (joint_picks (map plain_table tables.now))) }
+    ensures { IfOk result (λ rows. map (λ r. r.picks.items) rows.items ≡ map (map pos) (digits_below counts.now size)) }
 {
     let mut rows = Vec::new(alloc);
     for number in 0..size {
-        let picks = picks_at(alloc, tables, size, number)?;
+        let picks = picks_at(alloc, counts, size, number)?;
         rows.push(JointRow { picks })?;
     }
     Ok(rows)
 }
 
 /// Of each table the number of its row in the joint row with this number, of `size`.
-fn picks_at(alloc: Global, tables: &[Vec<Row>], size: u64, number: u64) -> Result<Numbers, Memory>
-    requires some { All (λ t. 1 ≤ vec_len t) tables.now }
-    requires size { size ≡ product_of (row_counts tables.now) }
+fn picks_at(alloc: Global, counts: &[u64], size: u64, number: u64) -> Result<Numbers, Memory>
+    requires some { All (λ n. 1 ≤ n) counts.now }
+    requires size { size ≡ product_of counts.now }
     requires within { size ≤ row_limit }
     requires exists { number < size }
-    ensures { IfOk result (λ picks. picks.items ≡ map pos (digits (row_counts tables.now) number)) }
+    ensures { IfOk result (λ picks. picks.items ≡ map pos (digits counts.now number)) }
 {
     let mut picks = List::new(alloc);
     // how many joint rows share the picks so far, and how many of these stand before this one
     let mut alike = size;
     let mut before = number;
-    for rows in tables {
-        alike /= rows.len() as u64;
+    for rows in counts {
+        alike /= *rows;
         picks.push((before / alike) as i64)?;
         before %= alike;
     }

@@ -58,3 +58,29 @@ pub(crate) fn joint_size(tables: &[Vec<Row>]) -> Result<u64, JointError>
     }
     Ok(product)
 }
+
+/// The same of tables of so many rows each.
+///
+/// # Errors
+///
+/// `TooMany` where it exceeds `MOST_ROWS`.
+pub(crate) fn product_within(counts: &[u64]) -> Result<u64, JointError>
+    requires few { length counts.now < 2 ^ 32 }
+    requires counted { All (λ n. n < 2 ^ 32) counts.now }
+    ensures size { IfOk result (λ n. n ≡ product_of counts.now) }
+    ensures within { IfOk result (λ n. n ≤ row_limit) }
+    ensures error { IfErr result IsTooMany }
+    ensures first { (t p : ℕ) → result ≡ Err (JointError.TooMany t p) → IsFirstOver row_limit counts.now t p }
+{
+    let mut product = 1;
+    for (table, rows) in counts.iter().enumerate() {
+        product *= *rows;
+        if product > MOST_ROWS {
+            return Err(JointError::TooMany {
+                table: table as u32,
+                product,
+            });
+        }
+    }
+    Ok(product)
+}

@@ -113,8 +113,21 @@ fn take_first(rt: &impl Abort, alloc: Global, w: &Accepted) -> Taken {
 
 fn printed(rt: &impl Abort, alloc: Global, w: &Workload, place: usize, row: &Row) -> Vec<u8> {
     let objects = ObjectNames::of(alloc, w).expect(rt, "memory");
+    let mut residual = Vec::new(alloc);
+    for c in row.residual.as_slice() {
+        residual.push(c).expect(rt, "memory");
+    }
     let mut out = Vec::new(alloc);
-    print_row(&mut out, w, &objects, place as u64, row).expect(rt, "memory");
+    let formula = row.formula.tests.as_slice();
+    print_row(
+        &mut out,
+        w,
+        &objects,
+        place as u64,
+        formula,
+        residual.as_slice(),
+    ).expect(rt, "memory");
+    drop(residual);
     drop(objects);
     out
 }

@@ -1,5 +1,5 @@
--- The texts of each kind of command of a residual, and of rows, as they are made.
-use Rattle.std.proofs.Common.{◌≡◌, ℕ, ◌+◌, ◌<◌, List, [], ◌∷◌, ◌++◌, length, map, take, get_or, append_assoc, append-nil, refl, sym, ap, ◌∙◌, arith}
+-- The texts of each kind of command of a residual, as they are made.
+use Rattle.std.proofs.Common.{◌≡◌, ℕ, ◌+◌, ◌<◌, List, [], ◌∷◌, ◌++◌, Bor, length, map, take, get_or, append_assoc, append-nil, refl, sym, ap, ◌∙◌, arith}
 use Rattle.std.specs.Prelude.{codes}
 use Rattle.std.specs.List.{flat_map}
 use Rattle.homeo_syntax.specs.Key.{definitions as syntax_definitions}
@@ -9,14 +9,11 @@ use Rattle.homeo_syntax.specs.LowView.{low_commands, plain_lcommand}
 use Rattle.homeo_syntax.specs.declared.low.Temp.{Temp}
 use Rattle.homeo_syntax.specs.declared.low.SplitName.{SplitName}
 use Rattle.homeo_syntax.specs.declared.low.LCommand.{LCommand}
-use Rattle.homeo_plan.specs.PlanView.{plain_row}
-use Rattle.homeo_plan.specs.declared.rows.Row.{Row}
 use Rattle.homeo_print.specs.declared.phrases.Position.TheVariants as position
 use Rattle.homeo_print.specs.Key.{definitions}
-use Rattle.homeo_print.specs.Tables.{temp_text, split_name_text, command_text, later_commands, commands_text, residual_text, row_text, rows_text}
+use Rattle.homeo_print.specs.Tables.{temp_text, split_name_text, command_text, later_commands, commands_text, residual_text}
 use Rattle.homeo_print.specs.inner.Walk.{expr_text_in}
 use Rattle.homeo_print.proofs.Listed.{flat_more}
-use Rattle.homeo_print.proofs.OneMore.{numbered_more}
 
 -- ---- commands
 pub of_Assign : (w : s.Workload) (t : Temp) (e : l.Expr) → command_text w (l.Assign t e) ≡ temp_text w t ++ codes " := " ++ expr_text_in w position.Alone e
@@ -43,49 +40,40 @@ pub of_If : (w : s.Workload) (test : l.Cond) (c d : l.Command) → command_text 
 unfolding definitions
 of_If w test c d = refl
 
-abbrev pub commands_behind : s.Workload → List LCommand → List ℕ
+abbrev pub commands_behind : s.Workload → List (Bor LCommand) → List ℕ
 unfolding definitions
-commands_behind w cs = flat_map (λ c. codes "; " ++ command_text w (plain_lcommand c)) cs
+commands_behind w cs = flat_map (λ c. codes "; " ++ command_text w (plain_lcommand c.now)) cs
 
 pub no_commands : (w : s.Workload) → commands_behind w [] ≡ []
 unfolding definitions
 no_commands w = refl
 
-pub no_command : (w : s.Workload) → commands_text w (low_commands (map plain_lcommand [])) ≡ []
+pub no_command : (w : s.Workload) → commands_text w (low_commands (map (λ (c : Bor LCommand). plain_lcommand c.now) [])) ≡ []
 unfolding definitions syntax_definitions
 no_command w = refl
 
-commands_all : (w : s.Workload) (cs : List LCommand) → later_commands w (low_commands (map plain_lcommand cs)) ≡ commands_behind w cs
+commands_all : (w : s.Workload) (cs : List (Bor LCommand)) → later_commands w (low_commands (map (λ c. plain_lcommand c.now) cs)) ≡ commands_behind w cs
 unfolding definitions syntax_definitions
 commands_all w [] = refl
-commands_all w (c ∷ cs) = ap (λ l. (codes "; " ++ command_text w (plain_lcommand c)) ++ l) (commands_all w cs)
+commands_all w (c ∷ cs) = ap (λ l. (codes "; " ++ command_text w (plain_lcommand c.now)) ++ l) (commands_all w cs)
 
-pub commands_are : (w : s.Workload) (c : LCommand) (cs : List LCommand) → commands_text w (low_commands (map plain_lcommand (c ∷ cs))) ≡ command_text w (plain_lcommand c) ++ commands_behind w cs
+pub commands_are : (w : s.Workload) (c : Bor LCommand) (cs : List (Bor LCommand)) → commands_text w (low_commands (map (λ c. plain_lcommand c.now) (c ∷ cs))) ≡ command_text w (plain_lcommand c.now) ++ commands_behind w cs
 unfolding definitions syntax_definitions
-commands_are w c cs = ap (λ l. command_text w (plain_lcommand c) ++ l) (commands_all w cs)
+commands_are w c cs = ap (λ l. command_text w (plain_lcommand c.now) ++ l) (commands_all w cs)
 
-pub commands_more : (w : s.Workload) (cs : List LCommand) (i : ℕ) (c : LCommand) → i < length cs → c ≡ get_or cs i c → commands_behind w (take (i + 1) cs) ≡ commands_behind w (take i cs) ++ (codes "; " ++ command_text w (plain_lcommand c))
+pub commands_more : (w : s.Workload) (cs : List (Bor LCommand)) (i : ℕ) (c : Bor LCommand) → i < length cs → c ≡ get_or cs i c → commands_behind w (take (i + 1) cs) ≡ commands_behind w (take i cs) ++ (codes "; " ++ command_text w (plain_lcommand c.now))
 unfolding definitions
-commands_more w cs i c within is = flat_more (λ (c : LCommand). codes "; " ++ command_text w (plain_lcommand c)) cs i c within is
+commands_more w cs i c within is = flat_more (λ (c : Bor LCommand). codes "; " ++ command_text w (plain_lcommand c.now)) cs i c within is
 
 -- ---- residuals
-pub no_residual : (w : s.Workload) (cs : List LCommand) → length cs < 1 → residual_text w (low_commands (map plain_lcommand cs)) ≡ codes "{}"
+pub no_residual : (w : s.Workload) (cs : List (Bor LCommand)) → length cs < 1 → residual_text w (low_commands (map (λ c. plain_lcommand c.now) cs)) ≡ codes "{}"
 unfolding definitions syntax_definitions
 no_residual w [] empty = refl
 no_residual w (c ∷ cs) empty = absurd (omega arith)
 
-pub residual_is : (w : s.Workload) (cs : List LCommand) → 0 < length cs → residual_text w (low_commands (map plain_lcommand cs)) ≡ codes "{ " ++ commands_text w (low_commands (map plain_lcommand cs)) ++ codes " }"
+pub residual_is : (w : s.Workload) (cs : List (Bor LCommand)) → 0 < length cs → residual_text w (low_commands (map (λ c. plain_lcommand c.now) cs)) ≡ codes "{ " ++ commands_text w (low_commands (map (λ c. plain_lcommand c.now) cs)) ++ codes " }"
 unfolding definitions syntax_definitions
 residual_is w [] some = absurd (omega arith)
 residual_is w (c ∷ cs) some = refl
 
--- ---- rows
-pub no_rows : (w : s.Workload) → rows_text w (map plain_row []) ≡ []
-unfolding definitions
-no_rows w = refl
-
-pub rows_more : (w : s.Workload) (rows : List Row) (i : ℕ) (r : Row) → i < length rows → r ≡ get_or rows i r → rows_text w (map plain_row (take (i + 1) rows)) ≡ rows_text w (map plain_row (take i rows)) ++ row_text w i (plain_row r)
-unfolding definitions
-rows_more w rows i r within is = numbered_more (row_text w) plain_row rows i r within is
-
-pub ruleset table_steps = (append_assoc, of_Assign, of_Write, of_Print, of_Skip, of_Seq, of_If, append-nil, no_rows, commands_more, no_residual, residual_is, rows_more)
+pub ruleset table_steps = (append_assoc, of_Assign, of_Write, of_Print, of_Skip, of_Seq, of_If, append-nil, commands_more, no_residual, residual_is)

@@ -140,13 +140,17 @@ unfolding definitions
 rows_text w rows = flat_map (λ r. row_text w r.0 r.1) (enumerate_from 0 rows)
 
 -- ---- tables
--- call G CALL at I rows N, and the rows
+-- call G CALL at I rows N
+abbrev pub table_heading : s.Workload → ℕ → Ground → ℕ → List ℕ
+unfolding definitions
+table_heading w number g rows =
+    codes "call " ++ decimal number ++ codes " " ++ ground_text w g
+    ++ codes " at " ++ decimal g.site ++ heading (codes " rows ") rows
+
+-- this line, and the rows
 abbrev pub table_text : s.Workload → ℕ → Ground → List Row → List ℕ
 unfolding definitions
-table_text w number g rows =
-    codes "call " ++ decimal number ++ codes " " ++ ground_text w g
-    ++ codes " at " ++ decimal g.site ++ heading (codes " rows ") (length rows)
-    ++ rows_text w rows
+table_text w number g rows = table_heading w number g (length rows) ++ rows_text w rows
 
 -- the symbolic table of a ground call: of the delta transform of its L form, for its site
 abbrev pub call_table : s.Workload → Ground → List Row

@@ -2,7 +2,7 @@
 
 ghost use Rattle.std.specs.Prelude.{◌≡◌, ◌++◌, map, OnOk};
 ghost use Rattle.homeo_syntax.specs.SourceView.{plain_workload};
-ghost use Rattle.homeo_syntax.specs.LowView.{low_exprs, plain_lexpr, plain_ltest, plain_lcond};
+ghost use Rattle.homeo_syntax.specs.LowView.{low_exprs, low_tests, plain_lexpr, plain_ltest, plain_lcond};
 ghost use Rattle.homeo_print.specs.Names.{object_names};
 ghost use Rattle.homeo_print.specs.Tables.{temp_text, split_name_text, sum_text, product_text, comparison_text, test_text, cond_text};
 ghost use Rattle.homeo_print.specs.inner.Walk.{expr_text_in, sign_text};
@@ -205,7 +205,7 @@ fn push_test(
 /// Appends a condition.
 #[cycle(conditions)]
 #[tactic(auto, using(homeo_syntax::proofs::Measures::low_test_parts, homeo_syntax::proofs::LowViews::low_phrase_views, crate::proofs::FormulaSteps::condition_steps))]
-pub(crate) fn push_cond(
+fn push_cond(
     out: &mut Vec<u8>,
     w: &Workload,
     objects: &ObjectNames,
@@ -215,7 +215,23 @@ pub(crate) fn push_cond(
     ensures { OnOk result (out.new.items
         ≡ out.old.items ++ cond_text (plain_workload w.now) (plain_lcond c.now)) }
 {
-    match c.tests.as_slice() {
+    push_tests(out, w, objects, c.tests.as_slice())
+}
+
+/// Appends the condition of these tests.
+#[cycle(conditions)]
+#[tactic(auto, using(homeo_syntax::proofs::Measures::low_test_parts, homeo_syntax::proofs::LowViews::low_phrase_views, crate::proofs::FormulaSteps::condition_steps))]
+pub(crate) fn push_tests(
+    out: &mut Vec<u8>,
+    w: &Workload,
+    objects: &ObjectNames,
+    tests: &[LTest],
+) -> Result<(), Memory>
+    requires named { objects.now ≡ object_names (plain_workload w.now) }
+    ensures { OnOk result (out.new.items
+        ≡ out.old.items ++ cond_text (plain_workload w.now) (low_tests (map plain_ltest tests.now))) }
+{
+    match tests {
         [] => {
             push_bytes(out, b"true")?;
             Ok(())

@@ -34,7 +34,7 @@ pub use choices::{print_joint, print_too_many_choices};
 use homeo_syntax::{Memory, Workload};
 pub use objects::ObjectNames;
 use std::alloc::Global;
-pub use tables::{print_row, print_table};
+pub use tables::{print_row, print_table_heading};
 pub use treaties::print_plan;
 
 /// The text of a workload: its declarations in order, each in a line of its own. Where the workload came from a text,

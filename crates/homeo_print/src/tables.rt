@@ -1,22 +1,20 @@
-//! The texts of rows and tables.
+//! The texts of rows, and of the lines in front of tables.
 #![tactic(auto, using(homeo_syntax::proofs::LowViews::low_command_views, crate::proofs::TableSteps::table_steps))]
 
 ghost use Rattle.std.specs.Prelude.{◌≡◌, ◌++◌, map, OnOk};
 ghost use Rattle.homeo_syntax.specs.SourceView.{plain_workload};
-ghost use Rattle.homeo_syntax.specs.LowView.{low_commands, plain_lcommand};
+ghost use Rattle.homeo_syntax.specs.LowView.{low_tests, low_commands, plain_ltest, plain_lcommand};
 ghost use Rattle.homeo_meaning.specs.Ground.{plain_ground};
-ghost use Rattle.homeo_plan.specs.PlanView.{plain_row};
 ghost use Rattle.homeo_print.specs.Names.{object_names};
-ghost use Rattle.homeo_print.specs.Tables.{command_text, commands_text, residual_text, row_text, rows_text, table_text};
+ghost use Rattle.homeo_print.specs.Tables.{command_text, commands_text, residual_text, row_text, table_heading};
 
 use crate::append::{push_bytes, push_heading, push_number};
 use crate::calls::print_call;
-use crate::formulas::{push_cond, push_expr, push_split_name, push_temp};
+use crate::formulas::{push_expr, push_split_name, push_temp, push_tests};
 use crate::objects::ObjectNames;
 use crate::phrases::Position;
 use homeo_meaning::GroundCall;
-use homeo_plan::Row;
-use homeo_syntax::{LCommand, Memory, Workload};
+use homeo_syntax::{LCommand, LTest, Memory, Workload};
 
 /// Appends a command of a residual, and nothing for a command that no residual has.
 fn push_command(
@@ -56,11 +54,11 @@ fn push_commands(
     out: &mut Vec<u8>,
     w: &Workload,
     objects: &ObjectNames,
-    commands: &[LCommand],
+    commands: &[&LCommand],
 ) -> Result<(), Memory>
     requires named { objects.now ≡ object_names (plain_workload w.now) }
     ensures { OnOk result (out.new.items
-        ≡ out.old.items ++ commands_text (plain_workload w.now) (low_commands (map plain_lcommand commands.now))) }
+        ≡ out.old.items ++ commands_text (plain_workload w.now) (low_commands (map (λ c. plain_lcommand c.now) commands.now))) }
 {
     match commands {
         [] => Ok(()),
@@ -79,11 +77,11 @@ fn push_residual(
     out: &mut Vec<u8>,
     w: &Workload,
     objects: &ObjectNames,
-    commands: &[LCommand],
+    commands: &[&LCommand],
 ) -> Result<(), Memory>
     requires named { objects.now ≡ object_names (plain_workload w.now) }
     ensures { OnOk result (out.new.items
-        ≡ out.old.items ++ residual_text (plain_workload w.now) (low_commands (map plain_lcommand commands.now))) }
+        ≡ out.old.items ++ residual_text (plain_workload w.now) (low_commands (map (λ c. plain_lcommand c.now) commands.now))) }
 {
     if commands.is_empty() {
         push_bytes(out, b"{}")
@@ -94,8 +92,8 @@ fn push_residual(
     }
 }
 
-/// Appends a row of a symbolic table, in three lines: its number, its formula, its residual. The names are those of the
-/// workload's objects.
+/// Appends a row of a symbolic table, in three lines: its number, its formula, which has these tests, its residual. The names
+/// are those of the workload's objects.
 ///
 /// # Errors
 ///
@@ -105,54 +103,37 @@ pub fn print_row(
     w: &Workload,
     objects: &ObjectNames,
     number: u64,
-    row: &Row,
+    formula: &[LTest],
+    residual: &[&LCommand],
 ) -> Result<(), Memory>
     requires named { objects.now ≡ object_names (plain_workload w.now) }
-    ensures text { OnOk result (out.new.items
-        ≡ out.old.items ++ row_text (plain_workload w.now) number (plain_row row.now)) }
+    ensures text { OnOk result (out.new.items ≡ out.old.items ++ row_text (plain_workload w.now) number record {
+        formula = low_tests (map plain_ltest formula.now);
+        residual = low_commands (map (λ c. plain_lcommand c.now) residual.now);
+    }) }
 {
     push_heading(out, b"row ", number)?;
     push_bytes(out, b"when ")?;
-    push_cond(out, w, objects, &row.formula)?;
+    push_tests(out, w, objects, formula)?;
     push_bytes(out, b"\ndo ")?;
-    push_residual(out, w, objects, row.residual.as_slice())?;
+    push_residual(out, w, objects, residual)?;
     push_bytes(out, b"\n")
 }
 
-/// Appends rows, numbered from 0.
-fn push_rows(
-    out: &mut Vec<u8>,
-    w: &Workload,
-    objects: &ObjectNames,
-    rows: &[Row],
-) -> Result<(), Memory>
-    requires named { objects.now ≡ object_names (plain_workload w.now) }
-    ensures { OnOk result (out.new.items
-        ≡ out.old.items ++ rows_text (plain_workload w.now) (map plain_row rows.now)) }
-{
-    for (number, row) in rows.iter().enumerate() {
-        print_row(out, w, objects, number as u64, row)?;
-    }
-    Ok(())
-}
-
-/// Appends a symbolic table: a line with the ground call's number, the call, its site and how many rows there are, and
-/// then the rows, numbered from 0. The names are those of the workload's objects.
+/// Appends the line in front of a symbolic table: the ground call's number, the call, its site and how many rows there are.
 ///
 /// # Errors
 ///
 /// `Memory` when out of memory, and then some of the bytes may be appended.
-pub fn print_table(
+pub fn print_table_heading(
     out: &mut Vec<u8>,
     w: &Workload,
-    objects: &ObjectNames,
     number: u64,
     call: &GroundCall,
-    rows: &[Row],
+    rows: u64,
 ) -> Result<(), Memory>
-    requires named { objects.now ≡ object_names (plain_workload w.now) }
     ensures text { OnOk result (out.new.items ≡ out.old.items
-        ++ table_text (plain_workload w.now) number (plain_ground call.now) (map plain_row rows.now)) }
+        ++ table_heading (plain_workload w.now) number (plain_ground call.now) rows) }
 {
     push_bytes(out, b"call ")?;
     push_number(out, number)?;
@@ -160,6 +141,5 @@ pub fn print_table(
     print_call(out, w, call)?;
     push_bytes(out, b" at ")?;
     push_number(out, call.site as u64)?;
-    push_heading(out, b" rows ", rows.len() as u64)?;
-    push_rows(out, w, objects, rows)
+    push_heading(out, b" rows ", rows)
 }

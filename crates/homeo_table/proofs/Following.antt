@@ -1,4 +1,4 @@
--- One more command in front of those that are left, and one more branch.
+-- One more command in front of those that are left, and one more row.
 use Rattle.std.proofs.Common.{◌≡◌, ◌+◌, ◌<◌, List, [], ◌∷◌, ◌++◌, map, reverse, length, Bor, refl, sym, ap, ap₂, ◌∙◌, arith, lit<, append_assoc, append-nil}
 use Rattle.std.proofs.lemmas.List.{reverse-append, map-append, map_push}
 use Rattle.homeo_syntax.specs.Key.{definitions as syntax_definitions}
@@ -9,11 +9,11 @@ use Rattle.homeo_syntax.specs.Low.{Expr, Cond, Command, Skip, Assign, Write, Pri
 use Rattle.homeo_syntax.specs.LowView.{low_commands, plain_lcommand}
 use Rattle.homeo_meaning.specs.LowMeaning.{Location, TempAt, location_of}
 use Rattle.homeo_plan.specs.Key.{definitions as plan_definitions}
-use Rattle.homeo_plan.specs.Table.{Row, set_before, test_before, otherwise, before, all_before, clear_row, last_row, table}
-use Rattle.homeo_table.specs.declared.branches.Branch.{Branch}
-use Rattle.homeo_table.specs.inner.Key.{definitions}
+use Rattle.homeo_plan.specs.Table.{Row, set_before, test_before, otherwise, before, all_before, last_row}
+use Rattle.homeo_table.specs.Key.{definitions}
+use Rattle.homeo_table.specs.Partings.{left_before}
 use Rattle.homeo_table.specs.inner.Makings.{command_before}
-use Rattle.homeo_table.specs.inner.Branches.{left_before, rows_of, rows_of_all, size, size_all, left_size}
+use Rattle.homeo_table.specs.inner.Branches.{size, size_all, left_size}
 
 -- ---- commands that are left
 pub left-push : (cs : List Command) (c : Command) (rows : List Row) → left_before (cs ++ c ∷ []) rows ≡ before c (left_before cs rows)
@@ -95,13 +95,9 @@ unfolding plan_definitions
 over-Seq k ds cs es rows h f = ap (λ l. left_before l rows) f ∙ left-all cs ds rows ∙ ap (λ k. before k (left_before cs rows)) (sym h)
 
 -- ---- rows in the making
-map-map : {A B C : Type 0} (m : B → C) (f : A → B) (xs : List A) → map m (map f xs) ≡ map (λ x. m (f x)) xs
+pub map-map : {A B C : Type 0} (m : B → C) (f : A → B) (xs : List A) → map m (map f xs) ≡ map (λ x. m (f x)) xs
 map-map m f [] = refl
 map-map m f (x ∷ xs) = ap (λ l. m (f x) ∷ l) (map-map m f xs)
-
-pub rows-start : (m : Row → Row) (cs : List Command) (c : Command) → m ≡ clear_row → cs ≡ c ∷ [] → map m (left_before cs (last_row ∷ [])) ≡ table c
-unfolding definitions plan_definitions
-rows-start m cs c e f = ap₂ (λ m cs. map m (left_before cs (last_row ∷ []))) e f
 
 pub rows-through :
     (m n f : Row → Row) (k : Command) (rows : List Row) → n ≡ (λ r. m (f r)) → before k rows ≡ map f rows → map n rows ≡ map m (before k rows)
@@ -136,30 +132,14 @@ pub pushed-left : (cs ds : List (Bor LCommand)) (c : Bor LCommand) (k : Command)
 pushed-left cs ds c k h is =
     ap (map (λ c. plain_lcommand c.now)) h ∙ map_push (λ c. plain_lcommand c.now) cs c ∙ ap (λ k. map (λ c. plain_lcommand c.now) cs ++ k ∷ []) is
 
--- ---- branches
-pub branches-push : (bs : List Branch) (b : Branch) → rows_of_all (bs ++ b ∷ []) ≡ rows_of b ++ rows_of_all bs
-unfolding definitions
-branches-push [] b = sym (append-nil (rows_of b))
-branches-push (d ∷ bs) b =
-    ap (λ rows. rows ++ rows_of d) (branches-push bs b) ∙ append_assoc (rows_of b) (rows_of_all bs) (rows_of d)
-
-pub branches-start : (bs cs : List Branch) (b : Branch) (rows : List Row) → bs ≡ [] → cs ≡ bs ++ b ∷ [] → rows_of b ≡ rows → rows_of_all cs ≡ rows
-unfolding definitions
-branches-start bs cs b rows h e f =
-    ap rows_of_all (e ∙ ap (λ bs. bs ++ b ∷ []) h) ∙ branches-push [] b ∙ append-nil (rows_of b) ∙ f
-
-pub branches-end : (bs : List Branch) (rows all : List Row) → bs ≡ [] → rows ++ rows_of_all bs ≡ all → rows ≡ all
-unfolding definitions
-branches-end bs rows all h e = sym (append-nil rows) ∙ ap (λ bs. rows ++ rows_of_all bs) (sym h) ∙ e
-
-pub branches-next : (bs cs : List Branch) (b : Branch) → cs ≡ bs ++ b ∷ [] → rows_of b ++ rows_of_all bs ≡ rows_of_all cs
-branches-next bs cs b h = sym (ap rows_of_all h ∙ branches-push bs b)
-
 pub next-row :
     {X : Type 0} (f : X → Row) (xs ys : List X) (x : X) (rows all before : List Row) → ys ≡ xs ++ x ∷ [] → f x ∷ rows ≡ before → map f xs ++ before ≡ all →
     map f ys ++ rows ≡ all
 next-row f xs ys x rows all before e h k =
     ap (λ ys. map f ys ++ rows) e ∙ ap (λ l. l ++ rows) (map_push f xs x) ∙ append_assoc (map f xs) (f x ∷ []) rows ∙ ap (λ l. map f xs ++ l) h ∙ k
+
+pub last-rows : (rows rest all : List Row) → rest ≡ [] → rows ++ rest ≡ all → rows ≡ all
+last-rows rows rest all h e = sym (append-nil rows) ∙ ap (λ rest. rows ++ rest) (sym h) ∙ e
 
 pub fewer-rows : (r : Row) (rows before : List Row) → r ∷ rows ≡ before → length rows < length before
 fewer-rows r rows before h = omega (arith, ap length h)

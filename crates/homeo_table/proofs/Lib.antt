@@ -1,9 +1,11 @@
 pub mod Substituted
 pub mod Makings
 pub mod Following
+pub mod Parted
 pub mod Held
 pub mod Fitting
 pub mod WalkSteps
 pub mod Reaching
 pub mod TakenSteps
 pub mod FormulasFit
+pub mod RowCounting

@@ -1,6 +1,6 @@
 -- One more command or test of a row in the making.
-use Rattle.std.proofs.Common.{◌≡◌, Option, Some, None, List, [], ◌∷◌, ◌++◌, map, refl, sym, ap, ap₂, ◌∙◌}
-use Rattle.std.proofs.lemmas.List.{map_push}
+use Rattle.std.proofs.Common.{◌≡◌, Option, Some, None, List, [], ◌∷◌, ◌++◌, map, take, length, Bor, refl, sym, ap, ap₂, ◌∙◌, arith}
+use Rattle.std.proofs.lemmas.List.{map_push, map-append, take_all, take-append-le}
 use Rattle.homeo_syntax.specs.Key.{definitions as syntax_definitions}
 use Rattle.homeo_syntax.specs.declared.low.LTest.{LTest}
 use Rattle.homeo_syntax.specs.declared.low.LCommand.{LCommand}
@@ -9,8 +9,9 @@ use Rattle.homeo_syntax.specs.LowView.{low_tests, low_commands, plain_ltest, pla
 use Rattle.homeo_meaning.specs.LowMeaning.{Location, put}
 use Rattle.homeo_plan.specs.Key.{definitions as plan_definitions}
 use Rattle.homeo_plan.specs.Table.{Row, both, set_before, test_before, otherwise, clear_row, last_row}
-use Rattle.homeo_table.specs.inner.Key.{definitions}
-use Rattle.homeo_table.specs.inner.Makings.{and_then, row_with, command_before}
+use Rattle.homeo_table.specs.Key.{definitions}
+use Rattle.homeo_table.specs.Partings.{and_then, row_with}
+use Rattle.homeo_table.specs.inner.Makings.{command_before}
 use Rattle.homeo_substitution.specs.Key.{definitions as substitution_definitions}
 use Rattle.homeo_substitution.specs.Substitution.{substituted, substituted_test, substituted_cond}
 use Rattle.homeo_substitution.proofs.Equations.{substituted-tests}
@@ -41,10 +42,10 @@ then-none [] = refl
 then-none (c ∷ cs) = ap (MoreCommand c) (then-none cs)
 
 -- ---- rows
-pub row-new : (ts : List LTest) (cs : List LCommand) (s : Location → Option Expr) → ts ≡ [] → cs ≡ [] → s ≡ (λ l. None) → row_with (map plain_ltest ts) (map plain_lcommand cs) s ≡ clear_row
+pub row-new : (ts : List Test) (cs : List Command) (s : Location → Option Expr) → ts ≡ [] → cs ≡ [] → s ≡ (λ l. None) → row_with ts cs s ≡ clear_row
 unfolding definitions plan_definitions syntax_definitions
 row-new ts cs s e f h =
-    ap₂ (λ ts cs. row_with (map plain_ltest ts) (map plain_lcommand cs) s) e f ∙ ap (row_with [] []) h
+    ap₂ (λ ts cs. row_with ts cs s) e f ∙ ap (row_with [] []) h
     ∙ (λ i r. row_of (none-cond r.formula i) r.residual)
 
 pub row-same :
@@ -57,22 +58,26 @@ row-put :
 unfolding plan_definitions
 row-put ts cs s c p e = λ i r. row_of (both (low_tests ts) (put-cond s p e r.formula i)) (then-push cs c r.residual i)
 
+commands-more :
+    (xs ys : List (Bor LCommand)) (x : Bor LCommand) → ys ≡ xs ++ x ∷ [] →
+    map (λ c. plain_lcommand c.now) ys ≡ map (λ c. plain_lcommand c.now) xs ++ plain_lcommand x.now ∷ []
+commands-more xs ys x h = ap (map (λ c. plain_lcommand c.now)) h ∙ map_push (λ c. plain_lcommand c.now) xs x
+
 pub row-set :
-    (ts : List Test) (xs ys : List LCommand) (s s' : Location → Option Expr) (x : LCommand) (c : Command) (p : Location) (e v : Expr) →
-    ys ≡ xs ++ x ∷ [] → plain_lcommand x ≡ c → s' ≡ put s p (Some v) → v ≡ substituted s e →
-    row_with ts (map plain_lcommand ys) s' ≡ (λ r. row_with ts (map plain_lcommand xs) s (set_before c p e r))
-row-set ts xs ys s s' x c p e v h is k w =
-    ap₂ (λ cs s. row_with ts cs s) (ap (map plain_lcommand) h ∙ map_push plain_lcommand xs x ∙ ap (λ c. map plain_lcommand xs ++ c ∷ []) is)
-    (k ∙ ap (λ v. put s p (Some v)) w)
-    ∙ row-put ts (map plain_lcommand xs) s c p e
+    (ts : List Test) (xs ys : List (Bor LCommand)) (s s' : Location → Option Expr) (x : Bor LCommand) (p : Location) (e v : Expr) →
+    ys ≡ xs ++ x ∷ [] → s' ≡ put s p (Some v) → v ≡ substituted s e →
+    row_with ts (map (λ c. plain_lcommand c.now) ys) s' ≡ (λ r. row_with ts (map (λ c. plain_lcommand c.now) xs) s (set_before (plain_lcommand x.now) p e r))
+row-set ts xs ys s s' x p e v h k w =
+    ap₂ (λ cs s. row_with ts cs s) (commands-more xs ys x h) (k ∙ ap (λ v. put s p (Some v)) w)
+    ∙ row-put ts (map (λ c. plain_lcommand c.now) xs) s (plain_lcommand x.now) p e
 
 pub row-command :
-    (ts : List Test) (xs ys : List LCommand) (s : Location → Option Expr) (x : LCommand) (c : Command) → ys ≡ xs ++ x ∷ [] → plain_lcommand x ≡ c →
-    row_with ts (map plain_lcommand ys) s ≡ (λ r. row_with ts (map plain_lcommand xs) s (command_before c r))
+    (ts : List Test) (xs ys : List (Bor LCommand)) (s : Location → Option Expr) (x : Bor LCommand) → ys ≡ xs ++ x ∷ [] →
+    row_with ts (map (λ c. plain_lcommand c.now) ys) s ≡ (λ r. row_with ts (map (λ c. plain_lcommand c.now) xs) s (command_before (plain_lcommand x.now) r))
 unfolding command_before
-row-command ts xs ys s x c h is =
-    ap (λ cs. row_with ts cs s) (ap (map plain_lcommand) h ∙ map_push plain_lcommand xs x ∙ ap (λ c. map plain_lcommand xs ++ c ∷ []) is)
-    ∙ (λ i r. row_of (both (low_tests ts) (substituted_cond s r.formula)) (then-push (map plain_lcommand xs) c r.residual i))
+row-command ts xs ys s x h =
+    ap (λ cs. row_with ts cs s) (commands-more xs ys x h)
+    ∙ (λ i r. row_of (both (low_tests ts) (substituted_cond s r.formula)) (then-push (map (λ c. plain_lcommand c.now) xs) (plain_lcommand x.now) r.residual i))
 
 -- tests that are those of a condition with what stands there put in
 pub row-asked :
@@ -104,3 +109,13 @@ row-fails xs ys cs s x b e h =
 pub row-last : (ts : List Test) (cs : List Command) (s : Location → Option Expr) → row_of (low_tests ts) (low_commands cs) ≡ row_with ts cs s last_row
 unfolding substitution_definitions plan_definitions
 row-last ts cs s = ap₂ row_of (sym (both-none (low_tests ts))) (sym (then-none cs))
+
+-- ---- what stands in front stays
+pub begins-same : {X : Type 0} (xs : List X) → take (length xs) xs ≡ xs
+begins-same xs = take_all (length xs) xs (omega arith)
+
+pub begins-append : {X : Type 0} (xs ys us : List X) → ys ≡ xs ++ us → take (length xs) ys ≡ xs
+begins-append xs ys us h = ap (take (length xs)) h ∙ take-append-le (length xs) xs us (omega arith) ∙ begins-same xs
+
+pub begins-more : {X Y : Type 0} (f : X → Y) (xs ys us : List X) → ys ≡ xs ++ us → take (length (map f xs)) (map f ys) ≡ map f xs
+begins-more f xs ys us h = begins-append (map f xs) (map f ys) (map f us) (ap (map f) h ∙ map-append f xs us)

@@ -11,8 +11,8 @@ use Rattle.homeo_plan.specs.Key.{definitions as plan_definitions}
 use Rattle.homeo_plan.specs.Table.{Row, otherwise, last_row, walk, walk_before, walk_all_before}
 use Rattle.homeo_split.specs.Key.{definitions as split_definitions}
 use Rattle.homeo_split.specs.CanExec.{run_limit, can_exec, can_exec_all}
-use Rattle.homeo_table.specs.inner.Key.{definitions}
-use Rattle.homeo_table.specs.inner.Makings.{and_then}
+use Rattle.homeo_table.specs.Key.{definitions}
+use Rattle.homeo_table.specs.Partings.{and_then}
 use Rattle.homeo_table.specs.inner.Takings.{taken_with, Follows}
 use Rattle.homeo_table.specs.inner.Walks.{to_come}
 use Rattle.homeo_table.proofs.Makings.{then-push, then-none}

@@ -1,1 +1,4 @@
+pub mod Key
+pub mod Partings
+pub mod Rows
 pub mod inner

@@ -1,5 +1,4 @@
 pub mod Branches
-pub mod Key
 pub mod Makings
 pub mod Reached
 pub mod Takings

@@ -3,13 +3,17 @@
 #![tactic(auto)]
 
 mod branches;
+mod counting;
 mod making;
 mod reached;
+mod rows;
 mod selection;
 mod tables;
 mod taking;
 mod walking;
 
+pub use counting::row_count;
+pub use rows::Rows;
 pub use selection::row_at;
 pub use tables::table;
 pub use taking::taken;

@@ -12,7 +12,7 @@ ghost use Rattle.homeo_split.specs.CanExec.{run_limit, cond_fits, can_exec};
 ghost use Rattle.homeo_split.specs.declared.split.Split.{Split};
 ghost use Rattle.homeo_split.specs.States.{state_of};
 
-use crate::branches::Branch;
+use crate::rows::Rows;
 use homeo_plan::Row;
 use homeo_syntax::{LCommand, Memory};
 use std::alloc::Global;
@@ -24,10 +24,9 @@ use std::alloc::Global;
 /// there what the command does. And where the command meets no number above 2 * 10^18 in size, no formula does up to its first
 /// test that fails, so that `row_at` can find the row.
 ///
-/// Branches are followed from the first command to the last, each from where it parts from another, and tests and
-/// commands are pushed at the ends of formula and residual. What is put in is shared until a test reads it. So, with a
-/// look-up of a name as one step, time and memory are linear in the rows, each with its formula, its residual and the
-/// commands on its way.
+/// The rows are copies of those that `Rows` reaches one after another, whose tests and commands are made once where branches
+/// share them. So, with a look-up of a name as one step, time and memory are linear in the rows, each with its formula, its
+/// residual and the commands on its way.
 ///
 /// # Errors
 ///
@@ -41,12 +40,10 @@ pub fn table(alloc: Global, c: &LCommand) -> Result<Vec<Row>, Memory>
         All (λ r. cond_fits run_limit (plain_row r).formula (state_of base) ≡ true) rows.items) }
     ensures count { IfOk result (λ t. length t.items ≡ rows (plain_lcommand c.now)) }
 {
-    let mut rows = Vec::new(alloc);
-    let mut branches = Vec::new(alloc);
-    branches.push(Branch::of(alloc, c)?)?;
-    while let Some(branch) = branches.pop() {
-        let row = branch.follow(alloc, &mut branches)?;
-        rows.push(row)?;
+    let mut table = Vec::new(alloc);
+    let mut rows = Rows::of(alloc, c)?;
+    while rows.next(alloc)? {
+        table.push(rows.row(alloc)?)?;
     }
-    Ok(rows)
+    Ok(table)
 }

@@ -44,7 +44,7 @@ pub fn walk(alloc: Global, c: &LCommand, base: &Split) -> Result<Row, Memory>
     while let Some(c) = left.pop() {
         step(alloc, c, base, &mut row, &mut left)?;
     }
-    Ok(row.row())
+    row.row(alloc)
 }
 
 /// Follows a command in front of those that are left, which stand from the last to the first.
@@ -52,7 +52,7 @@ fn step<'a>(
     alloc: Global,
     c: &'a LCommand,
     base: &Split,
-    row: &mut Making,
+    row: &mut Making<'a>,
     left: &mut Vec<&'a LCommand>,
 ) -> Result<(), Memory>
     requires { CanFollow (bound row.old.bindings) (plain_lcommand c.now ∷ to_come left.old.items) (state_of base.now) }
@@ -67,7 +67,7 @@ fn step<'a>(
             row.follow_set(alloc, c, place_of_temp(*target), value)
         }
         LCommand::Write { target, value } => row.follow_set(alloc, c, place_of(*target), value),
-        LCommand::Print { .. } => row.follow(alloc, c),
+        LCommand::Print { .. } => row.follow(c),
         LCommand::Seq { commands } => push_all(left, commands.as_slice()),
         LCommand::If { test, yes, no } => {
             if row.decide(alloc, test, base)? {

@@ -57,16 +57,14 @@ fn first_effects(
 /// The commands as those of a row without tests.
 fn printed(rt: &impl Abort, alloc: Global, w: &Workload, commands: List<LCommand>) -> Vec<u8> {
     let objects = ObjectNames::of(alloc, w).expect(rt, "memory");
-    let formula = LCond {
-        tests: List::new(alloc),
-    };
-    let row = Row {
-        formula,
-        residual: commands,
-    };
+    let mut residual = Vec::new(alloc);
+    for c in commands.as_slice() {
+        residual.push(c).expect(rt, "memory");
+    }
     let mut out = Vec::new(alloc);
-    print_row(&mut out, w, &objects, 0, &row).expect(rt, "memory");
-    drop(row);
+    print_row(&mut out, w, &objects, 0, &[], residual.as_slice()).expect(rt, "memory");
+    drop(residual);
+    drop(commands);
     drop(objects);
     out
 }

@@ -1,31 +1,43 @@
 -- The rows that branches have still to give.
-use Rattle.std.specs.Prelude.{ℕ, ◌+◌, List, [], ◌∷◌, ◌++◌, map}
+use Rattle.std.specs.Prelude.{ℕ, ◌+◌, ◌≤◌, List, [], ◌∷◌, map, reverse, length, ⊤}
+use Rattle.std.specs.Coded.{×_prop, Unit-prop, le_prop}
 use Rattle.homeo_syntax.specs.Low.{Command, Commands, Skip, Assign, Write, Print, Seq, If, NoCommand, MoreCommand}
 use Rattle.homeo_syntax.specs.LowView.{plain_lcommand}
-use Rattle.homeo_plan.specs.Table.{Row, before, last_row}
+use Rattle.homeo_plan.specs.Table.{Row, last_row}
+use Rattle.homeo_table.specs.declared.making.Making.{Making}
 use Rattle.homeo_table.specs.declared.branches.Branch.{Branch}
-use Rattle.homeo_table.specs.inner.Key.{definitions}
+use Rattle.homeo_table.specs.declared.branches.Parting.{Parting}
+use Rattle.homeo_table.specs.Key.{definitions}
+use Rattle.homeo_table.specs.Partings.{tests_of, commands_of, left_before, rows_of_all}
 use Rattle.homeo_table.specs.inner.Makings.{completed}
 
 -- the commands that are left, from the last to the first
 unfoldable pub left_of : Branch → List Command
 left_of b = map (λ c. plain_lcommand c.now) b.left.items
 
--- such commands in front of rows
-abbrev pub left_before : List Command → List Row → List Row
-unfolding definitions
-left_before [] rows = rows
-left_before (c ∷ cs) rows = left_before cs (before c rows)
-
 -- the rows of a branch
 unfoldable pub rows_of : Branch → List Row
 rows_of b = map (completed b.row) (left_before (left_of b) (last_row ∷ []))
 
--- the rows of branches, from the last to the first
-abbrev pub rows_of_all : List Branch → List Row
-unfolding definitions
-rows_of_all [] = []
-rows_of_all (b ∷ bs) = rows_of_all bs ++ rows_of b
+-- the rows of the branches that parted from this row in the making, the last one first
+abbrev pub rows_behind : Making → List Parting → List Row
+rows_behind m ps = rows_of_all (tests_of m) (commands_of m) (reverse ps)
+
+-- no mark is above these numbers of tests and commands, and each is at least as high as those behind it
+abbrev pub Nested : ℕ → ℕ → List Parting → Type 0
+Nested t c [] = ⊤
+Nested t c (p ∷ ps) = (p.mark.tests ≤ t) × ((p.mark.commands ≤ c) × Nested p.mark.tests p.mark.commands ps)
+
+pub Nested-prop : (t c : ℕ) (ps : List Parting) → IsProp (Nested t c ps)
+Nested-prop t c [] = Unit-prop
+Nested-prop t c (p ∷ ps) =
+    let tests : IsProp (p.mark.tests ≤ t) = le_prop in
+    let commands : IsProp (p.mark.commands ≤ c) = le_prop in
+    ×_prop tests (×_prop commands (Nested-prop p.mark.tests p.mark.commands ps))
+
+-- so are those of partings, below what stands in a row in the making
+abbrev pub AreNested : Making → List Parting → Type 0
+AreNested m ps = Nested (length (tests_of m)) (length (commands_of m)) (reverse ps)
 
 abbrev mutual
   unfolding definitions

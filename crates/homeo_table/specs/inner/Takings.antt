@@ -5,7 +5,7 @@ use Rattle.homeo_syntax.specs.LowView.{low_commands}
 use Rattle.homeo_meaning.specs.LowMeaning.{State}
 use Rattle.homeo_plan.specs.Table.{last_row, walk_all_before}
 use Rattle.homeo_split.specs.CanExec.{run_limit, can_exec_all}
-use Rattle.homeo_table.specs.inner.Makings.{and_then}
+use Rattle.homeo_table.specs.Partings.{and_then}
 
 -- the residual of these commands' walk from a state, behind the commands that were taken
 abbrev pub taken_with : List Command → List Command → State → Commands

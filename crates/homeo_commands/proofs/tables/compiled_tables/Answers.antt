@@ -1,8 +1,7 @@
-use Rattle.std.proofs.Common.{◌++◌, length, map, ap, ap₂, ◌∙◌, arith}
+use Rattle.std.proofs.Common.{◌++◌, length, map, sym, ap, ◌∙◌, arith}
 use Rattle.std.proofs.lemmas.List.{length-map}
 use Rattle.homeo_syntax.specs.SourceView.{plain_workload}
 use Rattle.homeo_meaning.specs.Ground.{grounds}
-use Rattle.homeo_joint.specs.Counts.{plain_table}
 use Rattle.homeo_print.specs.Key.{definitions as print_definitions}
 use Rattle.homeo_print.specs.Tables.{call_table, joint_text}
 use Rattle.homeo_commands.specs.inner.Key.{definitions}
@@ -21,8 +20,8 @@ push_joint-requires-clause-few c =
     omega (
       arith,
       ap length c.as_slice.ensures.value,
-      length-map c.in_ok-tables.tables.items plain_table,
-      ap length c.in_ok-tables.ensures.tables,
+      ap length c.in_ok-counts.ensures.counts,
+      length-map (map (call_table w) (grounds w)) length,
       length-map (grounds w) (call_table w),
       grounds_few w c.requires,
     )
@@ -31,7 +30,6 @@ pub returns : goal.returns
 unfolding definitions print_definitions
 returns c =
     let w = plain_workload c.args.c.now in
-    c.in_ok-push_joint.ensures
-    ∙ ap₂ (λ l ts. l ++ joint_text ts)
-    (c.in_ok-tables.ensures.text ∙ ap (λ l. l ++ calls_text w (grounds w)) c.new-out.ensures.items)
-    (ap (map plain_table) c.as_slice.ensures.value ∙ c.in_ok-tables.ensures.tables)
+    let tables = map (call_table w) (grounds w) in
+    c.in_ok-push_joint.ensures tables (c.in_ok-counts.ensures.counts ∙ sym c.as_slice.ensures.value)
+    ∙ ap (λ l. l ++ joint_text tables) (c.in_ok-counts.ensures.text ∙ ap (λ l. l ++ calls_text w (grounds w)) c.new-out.ensures.items)

@@ -1,4 +1,4 @@
-use Rattle.std.proofs.Common.{List, ℕ, map, arith}
+use Rattle.std.proofs.Common.{List, ℕ, Bor, map, arith}
 use Rattle.homeo_syntax.specs.Source as s
 use Rattle.homeo_syntax.specs.SourceView.{plain_workload}
 use Rattle.homeo_syntax.specs.LowView.{low_commands, plain_lcommand}
@@ -8,11 +8,11 @@ use Rattle.homeo_print.proofs.TableSteps.{commands_behind, no_commands, no_comma
 use Rattle.homeo_print.proofs.Listed.{list_end, list_none, list_start}
 use Rattle.homeo_print.proofs.tables.push_commands.Goals as goal
 
-abbrev one : s.Workload → LCommand → List ℕ
-one w c = command_text w (plain_lcommand c)
+abbrev one : s.Workload → Bor LCommand → List ℕ
+one w c = command_text w (plain_lcommand c.now)
 
-abbrev all : s.Workload → List LCommand → List ℕ
-all w cs = commands_text w (low_commands (map plain_lcommand cs))
+abbrev all : s.Workload → List (Bor LCommand) → List ℕ
+all w cs = commands_text w (low_commands (map (λ c. plain_lcommand c.now) cs))
 
 pub loop-c-init : goal.loop-c-init
 loop-c-init c =

@@ -4,4 +4,4 @@ use Rattle.homeo_syntax.specs.LowView.{plain_lcommand}
 use Rattle.homeo_table.proofs.making.copied_commands.Given as goal
 
 abbrev pub invariant-loop-command : goal.invariant-loop-command
-invariant-loop-command l = map plain_lcommand l.copies.items ≡ map plain_lcommand (take l.command-index l.commands)
+invariant-loop-command l = map plain_lcommand l.copies.items ≡ map (λ c. plain_lcommand c.now) (take l.command-index l.commands)

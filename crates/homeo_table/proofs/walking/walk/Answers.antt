@@ -1,6 +1,7 @@
 -- Each command is followed in front of those that are left.
 use Rattle.std.proofs.Common.{◌∷◌, refl, sym, ap, ◌∙◌}
 use Rattle.std.proofs.lemmas.List.{nil_from_length}
+use Rattle.std.proofs.lemmas.Result.{IfOk-weaker}
 use Rattle.homeo_syntax.specs.LowView.{plain_lcommand}
 use Rattle.homeo_meaning.specs.LowMeaning.{holds, exec_all}
 use Rattle.homeo_plan.specs.Table.{Row}
@@ -24,19 +25,25 @@ loop-c-init c =
 
 pub returns-clause-walked : goal.returns-clause-walked
 returns-clause-walked c =
-    last-walk (completed c.loop-c.row) (bound c.loop-c.row.bindings) c.loop-c.left.items (state_of c.args.base.now) _ _
-    (nil_from_length c.loop-c.left.items (sym c.loop-c.left.ok.0 ∙ c.in_default.ensures.cases.0)) c.row.ensures c.loop-c.invariant.row
+    IfOk-weaker c.row.result _ _
+    (λ r is. last-walk (completed c.loop-c.row) (bound c.loop-c.row.bindings) c.loop-c.left.items (state_of c.args.base.now) _ _
+    (nil_from_length c.loop-c.left.items (sym c.loop-c.left.ok.0 ∙ c.in_default.ensures.cases.0)) is c.loop-c.invariant.row)
+    c.row.ensures
 
 pub returns-clause-row : goal.returns-clause-row
 returns-clause-row c =
-    returns-clause-walked c ∙ sym (row_at_walk (plain_lcommand c.args.c.now) (state_of c.args.base.now) (no_temps c.args.base.now))
+    IfOk-weaker c.row.result _ _ (λ r is. is ∙ sym (row_at_walk (plain_lcommand c.args.c.now) (state_of c.args.base.now) (no_temps c.args.base.now))) (returns-clause-walked c)
 
 pub returns-clause-holds : goal.returns-clause-holds
 returns-clause-holds c =
-    ap (λ (r : Row). holds r.formula (state_of c.args.base.now)) (returns-clause-walked c)
-    ∙ walk_holds (plain_lcommand c.args.c.now) (state_of c.args.base.now) (no_temps c.args.base.now)
+    IfOk-weaker c.row.result _ _
+    (λ r is. ap (λ (r : Row). holds r.formula (state_of c.args.base.now)) is
+    ∙ walk_holds (plain_lcommand c.args.c.now) (state_of c.args.base.now) (no_temps c.args.base.now))
+    (returns-clause-walked c)
 
 pub returns-clause-means : goal.returns-clause-means
 returns-clause-means c =
-    ap (λ (r : Row). exec_all r.residual (state_of c.args.base.now)) (returns-clause-walked c)
-    ∙ walk_residual (plain_lcommand c.args.c.now) (state_of c.args.base.now)
+    IfOk-weaker c.row.result _ _
+    (λ r is. ap (λ (r : Row). exec_all r.residual (state_of c.args.base.now)) is
+    ∙ walk_residual (plain_lcommand c.args.c.now) (state_of c.args.base.now))
+    (returns-clause-walked c)
