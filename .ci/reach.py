@@ -212,7 +212,10 @@ def promises_of(root, crate):
             elif kind:
                 inside = items_of(body) if kind[1] == "trait" else []
                 ghost = re.findall(r"\bghost\b[^;]*", body) if kind[1] != "trait" else [it[0] for it in inside if "ghost" in it[0]]
-                ghosts[kind[2]].append(Promise(crate, kind[2], "ghost items", " ".join(ghost), scope))
+                # (a ghost field of a struct is an invariant, if others may not read it)
+                kept = [it for it in ghost if kind[1] == "struct" and not re.search(r"\bpub\s+" + re.escape(it), body)]
+                ghosts[kind[2]].append(Promise(crate, kind[2], "ghost fields", " ".join(kept), scope, True))
+                ghosts[kind[2]].append(Promise(crate, kind[2], "ghost items", " ".join(it for it in ghost if it not in kept), scope))
                 if is_public(kind[2], head):
                     public += [Promise(crate, kind[2], it[0], " ".join(it[2]), scope) for it in inside]
             elif of:

@@ -126,7 +126,8 @@ fn printed(rt: &impl Abort, alloc: Global, w: &Workload, place: usize, row: &Row
         place as u64,
         formula,
         residual.as_slice(),
-    ).expect(rt, "memory");
+    )
+    .expect(rt, "memory");
     drop(residual);
     drop(objects);
     out

@@ -1,16 +1,14 @@
-use Rattle.std.proofs.Common.{◌≡◌, ℕ, ◌×◌, ◌≤◌, ◌<◌, ◌^◌, [], ◌++◌, ◌∷◌, ◌∙◌, All, map, take, length, refl, sym, ap, ap₂, subst, append-nil, append_assoc}
+use Rattle.std.proofs.Common.{◌≡◌, ℕ, ◌≤◌, ◌<◌, ◌^◌, [], ◌++◌, ◌∷◌, ◌∙◌, All, map, take, length, refl, sym, ap, ap₂, subst, append-nil, append_assoc}
 use Rattle.std.proofs.lemmas.List.Elements.{All-nil, All-push}
 use Rattle.homeo_syntax.specs.LowView.{plain_lcommand}
 use Rattle.homeo_syntax.specs.SourceView.{plain_workload}
 use Rattle.homeo_meaning.specs.Ground.{plain_ground}
-use Rattle.homeo_meaning.specs.LowSizes.{rows}
 use Rattle.homeo_plan.specs.Planned.{sites_of, planned_call}
 use Rattle.homeo_plan.specs.Table.{table}
 use Rattle.homeo_plan.specs.Template.{shifted}
 use Rattle.homeo_plan.proofs.RowCounts.{length_table}
 use Rattle.homeo_build.proofs.GroundCalls.{command_is, call_below}
 use Rattle.homeo_print.specs.Key.{definitions as print_definitions}
-use Rattle.homeo_print.specs.Names.{object_names}
 use Rattle.homeo_print.specs.Tables.{call_table, rows_text, table_heading, table_text}
 use Rattle.homeo_commands.specs.inner.Key.{definitions}
 use Rattle.homeo_commands.specs.inner.Tabulated.{HasFewRows, calls_text}
@@ -49,11 +47,8 @@ row_count-rows-requires c =
     let few = few_here w calls k call within is (subst (All (HasFewRows w)) (sym c.calls-calls.ensures) c.requires.few) in
     (rows_counted w (plain_ground call) (plain_lcommand c.in_ok-command.command) _ few command refl).1
 
-pub push_rows-requires : goal.push_rows-requires
-push_rows-requires c = record {
-  named = c.in_ok-objects.ensures;
-  few = row_count-rows-requires c;
-}
+pub push_rows-requires-clause-few : goal.push_rows-requires-clause-few
+push_rows-requires-clause-few c = row_count-rows-requires c
 
 pub loop-number-preserved : goal.loop-number-preserved
 unfolding print_definitions
