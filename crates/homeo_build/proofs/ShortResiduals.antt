@@ -1,12 +1,11 @@
--- The residual of an accepted workload's ground call has no more commands than its L form is large, nor are more taken at the base.
+-- The residual of an accepted workload's ground call has no more commands than its L form is large.
 use Rattle.homeo_meaning.specs.Key.{definitions as meaning_definitions}
 use Rattle.homeo_plan.specs.Key.{definitions as plan_definitions}
 use Rattle.homeo_build.specs.Key.{definitions}
-use Rattle.std.proofs.Common.{◌≡◌, ℕ, zero, suc, ◌+◌, ◌≤◌, Bool, true, false, cond, List, [], ◌∷◌, map, length, ℤ, Some, Bor, refl, sym, ap, ◌∙◌, subst, arith}
+use Rattle.std.proofs.Common.{◌≡◌, ℕ, zero, suc, ◌+◌, ◌≤◌, Bool, true, false, cond, List, [], ◌∷◌, map, length, ℤ, Some, refl, sym, ap, ◌∙◌, subst, arith}
 use Rattle.std.specs.Prelude.{slice_get}
 use Rattle.std.proofs.lemmas.List.{length-map}
 use Rattle.homeo_syntax.specs.Key.{definitions as syntax_definitions}
-use Rattle.homeo_syntax.specs.declared.low.LCommand.{LCommand}
 use Rattle.homeo_syntax.specs.declared.low.SplitName.TheVariants.{Whole, Base, Delta}
 use Rattle.homeo_syntax.specs.Low.{Command, Commands, Skip, Assign, Write, Print, Seq, If, NoCommand, MoreCommand}
 use Rattle.homeo_syntax.specs.LowView.{low_commands, plain_lcommand}
@@ -23,11 +22,7 @@ use Rattle.homeo_plan.specs.Split.{shift, shift_all, shift_cond}
 use Rattle.homeo_plan.specs.Table.{Row, test_before, otherwise, last_row, walk_before, walk_all_before}
 use Rattle.homeo_plan.specs.Template.{PlannedCall, shifted, base_row}
 use Rattle.homeo_plan.proofs.Tables.{row_at_walk}
-use Rattle.homeo_follow.specs.Taken.{taken}
-use Rattle.homeo_follow.proofs.Residuals.{residual_is}
 use Rattle.homeo_build.specs.Plan.{SitedResidual, sited_residual, residual_at, residuals_at}
-use Rattle.homeo_build.specs.TakenCommands.{SitedCommands, taken_at}
-use Rattle.homeo_build.proofs.FewClauses.{IsSited, planned_sited}
 use Rattle.homeo_build.proofs.SizedCalls.{size_of, AreSmall, planned_small}
 
 abbrev count : Commands → ℕ
@@ -96,35 +91,3 @@ residuals_short w base n r accepted found =
     let small : AreSmall w = planned_small w accepted in
     let counted = short_at (sites_of w) (values_of base) 200000 (planned w) n (sited_residual r) small.each found in
     omega (arith, counted, count_all (map plain_lcommand r.commands.items), length-map r.commands.items plain_lcommand)
-
--- ---- the commands that are taken
-shifted_count : (k i : ℕ) (cs : Commands) → count (shift_all k i cs) ≡ count cs
-unfolding plan_definitions
-shifted_count k i NoCommand = refl
-shifted_count k i (MoreCommand c cs) = omega (arith, shifted_count k i cs)
-
-module _ (k : ℕ) (b : ℕ → ℤ) where
-  taken_row : (g : PlannedCall) → IsSited k g → count (taken b g.command) ≤ size_of k g
-  taken_row g h =
-      let same : count (taken b g.command) ≡ count (base_row k b g).residual =
-      sym (shifted_count k g.site (taken b g.command)) ∙ ap count (sym (residual_is k b g h.0 h.1)) in
-      omega (arith, same, row_short k b g)
-
-  taken_short_at :
-      (most : ℕ) (gs : List PlannedCall) (n : ℕ) (q : SitedCommands) → Each (λ g. size_of k g ≤ most) gs → Each (IsSited k) gs →
-      slice_get (map (taken_at b) gs) n ≡ Some q → count q.commands ≤ most
-  unfolding definitions plan_definitions
-  taken_short_at most [] n q h sited e = cc
-  taken_short_at most (g ∷ gs) zero q h sited e =
-      let is : taken_at b g ≡ q = cc in
-      subst (λ (u : SitedCommands). count u.commands ≤ most) is (omega (arith, taken_row g sited.0, h.0))
-  taken_short_at most (g ∷ gs) (suc n) q h sited e = taken_short_at most gs n q h.1 sited.1 e
-
-pub taken_short :
-    (w : s.Workload) (base : List ℤ) (n site : ℕ) (cs : List (Bor LCommand)) → IsAccepted w →
-    slice_get (map (taken_at (values_of base)) (planned w)) n ≡ Some (record { site = site; commands = low_commands (map (λ c. plain_lcommand c.now) cs) }) →
-    length cs ≤ 200000
-taken_short w base n site cs accepted found =
-    let small : AreSmall w = planned_small w accepted in
-    let counted = taken_short_at (sites_of w) (values_of base) 200000 (planned w) n _ small.each (planned_sited w accepted) found in
-    omega (arith, counted, count_all (map (λ c. plain_lcommand c.now) cs), length-map cs (λ c. plain_lcommand c.now))

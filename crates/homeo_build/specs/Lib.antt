@@ -1,6 +1,5 @@
 pub mod Forms
 pub mod Key
 pub mod Plan
-pub mod TakenCommands
 pub mod Written
 pub mod inner

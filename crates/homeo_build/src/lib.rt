@@ -14,7 +14,6 @@ mod rebased;
 pub mod residuals;
 pub mod shares;
 mod sites;
-pub mod taken;
 pub mod treaties;
 mod written;
 

@@ -9,7 +9,6 @@ use homeo_build::Compiled;
 use homeo_build::compile::compile;
 use homeo_build::residuals::residual;
 use homeo_build::shares::shares;
-use homeo_build::taken::taken_by;
 use homeo_build::treaties::treaties;
 use homeo_eval::initial;
 use homeo_plan::{Clause, Delta, Residual, RoundPlan, Term};
@@ -164,22 +163,4 @@ fn a_site_that_does_not_write_has_no_share(rt: HostRuntime) {
         }
         _ => panic!(rt; "two clauses"),
     }
-}
-
-/// The site of the first ground call, and how many commands it takes from the starting values.
-fn first_taken(rt: &impl Abort, alloc: Global, c: &Compiled) -> (u32, usize) {
-    if c.calls().is_empty() {
-        panic!(rt; "a call");
-    }
-    let base = initial(alloc, c.workload()).expect(rt, "memory");
-    let taken = taken_by(alloc, c, &base, 0).expect(rt, "memory");
-    (taken.site, taken.commands.len())
-}
-
-#[test]
-fn a_call_takes_both_writes(rt: HostRuntime) {
-    let compiled = compiled(&rt, rt.alloc(), TWICE);
-    let taken = first_taken(&rt, rt.alloc(), &compiled);
-    drop(compiled);
-    same(&rt, &taken, &(0, 2));
 }

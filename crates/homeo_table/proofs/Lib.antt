@@ -5,7 +5,5 @@ pub mod Parted
 pub mod Held
 pub mod Fitting
 pub mod WalkSteps
-pub mod Reaching
-pub mod TakenSteps
 pub mod FormulasFit
 pub mod RowCounting
