@@ -17,7 +17,7 @@ use Rattle.homeo_meaning.specs.CallForm.{ground_form}
 use Rattle.homeo_meaning.specs.Calls.{IsGroundCall}
 use Rattle.homeo_meaning.specs.Ground.{Ground}
 use Rattle.homeo_meaning.specs.LowComputed.{CanRun}
-use Rattle.homeo_meaning.specs.LowMeaning.{Location, State, TempAt, BaseAt, DeltaAt, location_of, exec, whole}
+use Rattle.homeo_meaning.specs.LowMeaning.{State, BaseAt, DeltaAt, location_of, exec}
 use Rattle.homeo_meaning.specs.Schema.{schema_of}
 use Rattle.homeo_meaning.specs.Serial.{values_of}
 use Rattle.homeo_meaning.specs.Small.{IsSmall}
@@ -88,13 +88,6 @@ delta_zero database x zero = zeros_at (length database) x
 delta_zero database x (suc zero) = zeros_at (length database) x
 delta_zero database x (suc (suc j)) = refl
 
-started_whole : (database : List ℤ) (l : Location) → started database l ≡ whole (values_of database) l
-unfolding meaning_definitions
-started_whole database (TempAt (Named n)) = refl
-started_whole database (TempAt (Fresh n)) = refl
-started_whole database (BaseAt x) = refl
-started_whole database (DeltaAt x j) = delta_zero database x j
-
 fold_base : (database : List ℤ) (x : ℕ) → fold_state 2 (started database) (BaseAt x) ≡ values_of database x
 unfolding definitions meaning_definitions
 fold_base database x = omega (arith, ints, delta_zero database x 0, delta_zero database x 1)
@@ -130,11 +123,6 @@ module _
 
     pub can_run : (s : Split) (c : Command) → IsUndivided database s → c ≡ shift 2 i (ground_form w g) → can_exec run_limit c (state_of s) ≡ true
     can_run s c is e = ap₂ (can_exec run_limit) e (start_is database s is) ∙ runs
-
-    pub can_take :
-        (s : Split) (c : Command) → IsUndivided database s → c ≡ shift 2 i (ground_form w g) → can_exec run_limit c (whole (values_of s.base.items)) ≡ true
-    can_take s c is e =
-        ap₂ (can_exec run_limit) e (ap (λ b. whole (values_of b)) is.base ∙ sym (fun_ext (started_whole database))) ∙ runs
 
     pub has_sites : (s : Split) (c : Command) → IsUndivided database s → c ≡ shift 2 i (ground_form w g) → has_places (shape_of s) c ≡ true
     unfolding meaning_definitions

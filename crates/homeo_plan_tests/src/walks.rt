@@ -1,4 +1,4 @@
-//! The row of a whole call of a text, by the table and by the walk, and the commands that are taken.
+//! The row of a whole call of a text, by the table and by the walk.
 
 ghost use Rattle.std.specs.Prelude.{◌≡◌, true};
 ghost use Rattle.homeo_syntax.specs.LowView.{plain_lcommand};
@@ -6,9 +6,7 @@ ghost use Rattle.homeo_syntax.specs.SourceView.{plain_workload};
 ghost use Rattle.homeo_meaning.specs.Bounds.{IsWithin};
 ghost use Rattle.homeo_meaning.specs.Declarations.{declarations};
 ghost use Rattle.homeo_meaning.specs.Ground.{plain_ground};
-ghost use Rattle.homeo_meaning.specs.LowMeaning.{whole};
 ghost use Rattle.homeo_meaning.specs.Schema.{schema_of};
-ghost use Rattle.homeo_meaning.specs.Serial.{values_of};
 ghost use Rattle.homeo_split.specs.CanExec.{run_limit, can_exec};
 ghost use Rattle.homeo_split.specs.States.{state_of};
 ghost use Rattle.homeo_ground.specs.Grounding.{IsCalled};
@@ -26,7 +24,7 @@ use homeo_plan::Row;
 use homeo_print::{ObjectNames, print_row};
 use homeo_split::Split;
 use homeo_syntax::{LCommand, Workload};
-use homeo_table::{row_at, table, taken, walk};
+use homeo_table::{row_at, table, walk};
 use std::alloc::Global;
 use std::process::Abort;
 
@@ -46,31 +44,26 @@ schedule a
 end
 ";
 
-/// The row that a command takes at a database: its place in the table, and the row itself by the table and by the walk; and how many
-/// commands it takes from the base.
+/// The row that a command takes at a database: its place in the table, and the row itself by the table and by the walk.
 #[derive(Drop)]
 struct Taken {
     place: usize,
     by_table: Row,
     by_walk: Row,
-    commands: usize,
 }
 
 fn take(rt: &impl Abort, alloc: Global, c: &LCommand, base: &Split) -> Taken
-    requires walked { can_exec run_limit (plain_lcommand c.now) (state_of base.now) ≡ true }
-    requires taken { can_exec run_limit (plain_lcommand c.now) (whole (values_of base.now.base.items)) ≡ true }
+    requires { can_exec run_limit (plain_lcommand c.now) (state_of base.now) ≡ true }
 {
     let rows = table(alloc, c).expect(rt, "memory");
     let place = row_at(rows.as_slice(), base);
     let by_table = rows[place].copy(alloc).expect(rt, "memory");
     drop(rows);
     let by_walk = walk(alloc, c, base).expect(rt, "memory");
-    let taken = taken(alloc, c, base.base.as_slice()).expect(rt, "memory");
     Taken {
         place,
         by_table,
         by_walk,
-        commands: taken.len(),
     }
 }
 
@@ -147,12 +140,11 @@ fn the_walk_gives_the_row_of_the_table(rt: HostRuntime) {
 }
 
 #[test]
-fn the_commands_taken_are_as_many_as_those_of_the_row(rt: HostRuntime) {
+fn what_is_written_is_read_by_the_tests_after_it(rt: HostRuntime) {
     let alloc = rt.alloc();
     let w = accepted(&rt, alloc, FILL);
     let taken = take_first(&rt, alloc, &w);
     drop(w);
     same(&rt, &taken.by_walk.residual.as_slice().len(), &4);
-    same(&rt, &taken.commands, &4);
     drop(taken);
 }
