@@ -3,7 +3,7 @@
 use crate::same::same;
 use homeo_plan::Row;
 use homeo_syntax::{Compare, LCommand, LCond, LExpr, LTest, List, SplitName, Temp};
-use homeo_table::table;
+use homeo_table::{Rows, table};
 use std::alloc::Global;
 use std::process::Abort;
 
@@ -76,4 +76,26 @@ fn a_choice_has_two_rows(rt: HostRuntime) {
     same(&rt, &sizes(rows.last()), &Some((1, 1)));
     assert!(rt; first_is(rows.first(), 0));
     drop(rows);
+}
+
+// How many tests and commands the next row has, if there is one.
+fn next_sizes(rt: &impl Abort, alloc: Global, rows: &mut Rows) -> Option<(usize, usize)> {
+    if rows.next(alloc).expect(rt, "memory") {
+        Some((rows.formula().len(), rows.residual().len()))
+    } else {
+        None
+    }
+}
+
+#[test]
+fn the_rows_of_a_choice_are_reached_one_after_another(rt: HostRuntime) {
+    let alloc = rt.alloc();
+    let command = sample(&rt, alloc);
+    let mut rows = Rows::of(alloc, &command).expect(&rt, "memory");
+    same(&rt, &next_sizes(&rt, alloc, &mut rows), &Some((1, 2)));
+    same(&rt, &next_sizes(&rt, alloc, &mut rows), &Some((1, 1)));
+    same(&rt, &next_sizes(&rt, alloc, &mut rows), &None);
+    same(&rt, &next_sizes(&rt, alloc, &mut rows), &None);
+    drop(rows);
+    drop(command);
 }
