@@ -108,8 +108,8 @@ pub fn print_row(
 ) -> Result<(), Memory>
     requires named { objects.now ≡ object_names (plain_workload w.now) }
     ensures text { OnOk result (out.new.items ≡ out.old.items ++ row_text (plain_workload w.now) number record {
-        formula = low_tests (map plain_ltest formula.now);
-        residual = low_commands (map (λ c. plain_lcommand c.now) residual.now);
+      formula = low_tests (map plain_ltest formula.now);
+      residual = low_commands (map (λ c. plain_lcommand c.now) residual.now);
     }) }
 {
     push_heading(out, b"row ", number)?;
