@@ -154,6 +154,13 @@ few_here w calls i g within is all =
     let here : i < length (map plain_ground calls) = omega (arith, length-map calls plain_ground, within) in
     subst (HasFewRows w) (get_or-map plain_ground calls i g (plain_ground g) within ∙ ap plain_ground (sym is)) (all i (plain_ground g) here)
 
+-- the table of the command of a call
+pub small_here :
+    (w : s.Workload) (calls : List GroundCall) (i : ℕ) (g : GroundCall) (c : Command) → map plain_ground calls ≡ grounds w → i < length calls →
+    g ≡ get_or calls i g → c ≡ shifted (sites_of w) (planned_call w (plain_ground g)) → All (HasFewRows w) (grounds w) → rows c < 2 ^ 32
+small_here w calls i g c are within is command few =
+    (rows_counted w (plain_ground g) c (rows c) (few_here w calls i g within is (subst (All (HasFewRows w)) (sym are) few)) command refl).1
+
 -- ---- one row more
 pub row_next :
     (w : s.Workload) (n : ℕ) (r s : Row) (rest all : List Row) (out more start text : List ℕ) → all ≡ s ∷ rest → r ≡ s → more ≡ out ++ row_text w n r →

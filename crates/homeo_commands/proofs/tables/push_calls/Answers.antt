@@ -1,4 +1,4 @@
-use Rattle.std.proofs.Common.{◌≡◌, ℕ, ◌≤◌, ◌<◌, ◌^◌, [], ◌++◌, ◌∷◌, ◌∙◌, All, map, take, length, refl, sym, ap, ap₂, subst, append-nil, append_assoc}
+use Rattle.std.proofs.Common.{◌≡◌, ℕ, ◌≤◌, ◌<◌, ◌^◌, [], ◌++◌, ◌∷◌, ◌∙◌, All, map, take, length, sym, ap, ap₂, subst, append-nil, append_assoc}
 use Rattle.std.proofs.lemmas.List.Elements.{All-nil, All-push}
 use Rattle.homeo_syntax.specs.LowView.{plain_lcommand}
 use Rattle.homeo_syntax.specs.SourceView.{plain_workload}
@@ -12,7 +12,7 @@ use Rattle.homeo_print.specs.Key.{definitions as print_definitions}
 use Rattle.homeo_print.specs.Tables.{call_table, rows_text, table_heading, table_text}
 use Rattle.homeo_commands.specs.inner.Key.{definitions}
 use Rattle.homeo_commands.specs.inner.Tabulated.{HasFewRows, calls_text}
-use Rattle.homeo_commands.proofs.Tabulating.{few_here, rows_counted, texts_more, counts_more}
+use Rattle.homeo_commands.proofs.Tabulating.{few_here, rows_counted, small_here, texts_more, counts_more}
 use Rattle.homeo_commands.proofs.tables.push_calls.Goals as goal
 
 abbrev IsSome : ℕ → Type 0
@@ -41,14 +41,21 @@ row_count-rows-requires c =
     let calls = c.calls-calls.result.now in
     let k = c.loop-number.number in
     let call = c.index-calls-number.result in
+    let l = plain_lcommand c.in_ok-command.command in
     let within = c.loop-number-test.true in
     let is = c.index-calls-number.is in
-    let command = command_is w calls k call (plain_lcommand c.in_ok-command.command) c.calls-calls.ensures within is c.in_ok-command.ensures in
-    let few = few_here w calls k call within is (subst (All (HasFewRows w)) (sym c.calls-calls.ensures) c.requires.few) in
-    (rows_counted w (plain_ground call) (plain_lcommand c.in_ok-command.command) _ few command refl).1
+    small_here w calls k call l c.calls-calls.ensures within is (command_is w calls k call l c.calls-calls.ensures within is c.in_ok-command.ensures) c.requires.few
 
 pub push_rows-requires-clause-few : goal.push_rows-requires-clause-few
-push_rows-requires-clause-few c = row_count-rows-requires c
+push_rows-requires-clause-few c =
+    let w = plain_workload c.args.c.now in
+    let calls = c.calls-calls.result.now in
+    let k = c.loop-number.number in
+    let call = c.index-calls-number.result in
+    let l = plain_lcommand c.in_ok-command.command in
+    let within = c.loop-number-test.true in
+    let is = c.index-calls-number.is in
+    small_here w calls k call l c.calls-calls.ensures within is (command_is w calls k call l c.calls-calls.ensures within is c.in_ok-command.ensures) c.requires.few
 
 pub loop-number-preserved : goal.loop-number-preserved
 unfolding print_definitions
