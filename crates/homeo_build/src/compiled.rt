@@ -68,7 +68,7 @@ impl Model for Compiled {
 impl Compiled {
     /// Takes a workload with the places of its names, its ground calls, their L forms, and what these can write. It takes no
     /// memory.
-    pub fn new(
+    pub(crate) fn new(
         workload: Accepted,
         declared: Declarations,
         calls: Grounding,

@@ -23,7 +23,7 @@ use std::alloc::Global;
 /// The L forms of ground calls, over whole objects, once for each transaction with arguments; of each ground call the place of
 /// its own; and of each form the objects that it names.
 #[derive(Drop)]
-pub struct Forms {
+pub(crate) struct Forms {
     pub(crate) forms: List<LCommand>,
     pub(crate) places: Vec<usize>,
     pub(crate) names: Vec<Vec<u32>>,

@@ -18,4 +18,3 @@ pub mod treaties;
 mod written;
 
 pub use compiled::Compiled;
-pub use forms::Forms;

@@ -3,7 +3,6 @@ pub mod Expansions
 pub mod Needed
 pub mod PlannedAtoms
 pub mod Rebasing
-pub mod Residuals
 pub mod Simulated
 pub mod Standing
 pub mod Staying

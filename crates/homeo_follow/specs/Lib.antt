@@ -3,8 +3,6 @@ pub mod Expanded
 pub mod Follow
 pub mod FollowSizes
 pub mod Key
-pub mod Lines
 pub mod Named
 pub mod ObjectTemplate
 pub mod Rebased
-pub mod Taken

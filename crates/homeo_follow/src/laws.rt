@@ -14,21 +14,17 @@ ghost use Rattle.homeo_meaning.specs.Serial.{values_of};
 ghost use Rattle.homeo_meaning.specs.Small.{IsSmall};
 ghost use Rattle.homeo_meaning.specs.Whole.{IsWhole};
 ghost use Rattle.homeo_plan.specs.Each.{Each};
-ghost use Rattle.homeo_plan.specs.Joined.{Deltas};
 ghost use Rattle.homeo_plan.specs.Limit.{form_limit};
 ghost use Rattle.homeo_plan.specs.Needs.{remote};
-ghost use Rattle.homeo_plan.specs.Split.{shift_all};
-ghost use Rattle.homeo_plan.specs.Template.{PlannedCall, atoms_of, base_row, needs_of, Clause, template};
+ghost use Rattle.homeo_plan.specs.Template.{PlannedCall, atoms_of, needs_of, Clause, template};
 ghost use Rattle.homeo_plan.specs.declared.forms.Delta.{Delta};
 ghost use Rattle.homeo_follow.specs.Brought.{brought};
 ghost use Rattle.homeo_follow.specs.Expanded.{expanded, expanded_deltas};
 ghost use Rattle.homeo_follow.specs.Follow.{object_forms, follow, followed, needed};
 ghost use Rattle.homeo_follow.specs.FollowSizes.{AreNumbers, CanBeFollowed};
-ghost use Rattle.homeo_follow.specs.Lines.{RunsByLines};
 ghost use Rattle.homeo_follow.specs.Named.{named};
 ghost use Rattle.homeo_follow.specs.ObjectTemplate.{expanded_clause, IsByObjects};
 ghost use Rattle.homeo_follow.specs.Rebased.{rebased_clause, rebased, gains};
-ghost use Rattle.homeo_follow.specs.Taken.{AreTaken, taken};
 
 /// The atoms of a ground call over whole objects, at its site and at a base, are those of its command followed by objects, with
 /// each object's factor at each site. So they are the same at every site.
@@ -41,19 +37,6 @@ pub fn atoms_are_followed()
 pub fn needs_are_followed()
     ensures { (k : ℕ) (b : ℕ → ℤ) (p : PlannedCall) → p.site < k → IsWhole p.command →
         needs_of k b p ≡ remote p.site (expanded_deltas k (needed b (followed b p.command))) }
-{}
-
-/// Its residual is the delta transform, at its site, of the commands that its command takes from the base. These are assignments,
-/// writes and prints.
-pub fn residuals_are_of_taken_commands()
-    ensures residual { (k : ℕ) (b : ℕ → ℤ) (p : PlannedCall) → p.site < k → IsWhole p.command →
-        (base_row k b p).residual ≡ shift_all k p.site (taken b p.command) }
-    ensures taken { (b : ℕ → ℤ) (c : Command) → IsWhole c → AreTaken (taken b c) }
-{}
-
-/// Where the forms of its command mix nothing, its local step prints and leaves their values at the deltas of its site.
-pub fn local_steps_run_by_lines()
-    ensures { (k : ℕ) (b : ℕ → ℤ) (p : PlannedCall) → p.site < k → IsWhole p.command → (x : Deltas) → RunsByLines k b p x }
 {}
 
 /// So the template of ground calls over whole objects is made by objects: each clause has an object's factor at each site.

@@ -171,7 +171,8 @@ fn follow_all(alloc: Global, commands: &[LCommand], course: &mut Course<'_>) -> 
 /// Follows commands at a base, one after another.
 #[derive(Drop)]
 pub struct Follower<'a> {
-    base: &'a [i64],
+    /// The base, a value for each object.
+    pub base: &'a [i64],
     course: Course<'a>,
 }
 

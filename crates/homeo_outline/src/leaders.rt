@@ -1,8 +1,10 @@
 //! Clauses that are looked at in place of others: those of the same terms and no more slack.
 
-ghost use Rattle.std.specs.Prelude.{◌≡◌, ◌<◌, ℕ, [], IsTrue, IfOk, IfSome, OnOk, true, length, map, pos, int_lt, slice_index_or};
+ghost use Rattle.std.specs.Prelude.{◌≡◌, ◌<◌, ℕ, List as Seq, [], IsTrue, IfOk, IfSome, OnOk, true, length, map, pos, int_lt, slice_index_or};
+ghost use Rattle.homeo_plan.specs.declared.forms.Term.{Term};
 ghost use Rattle.homeo_outline.specs.Leaders.{IsLed, Lead};
 ghost use Rattle.homeo_outline.specs.Numbers.{has, clauses_on};
+ghost use Rattle.homeo_outline.specs.inner.Alike.{AreAlike};
 
 use crate::outline::Outline;
 use crate::uses::numbers_at;
@@ -101,7 +103,7 @@ fn lead(
         return Ok(false);
     }
     if let Some(place) = alike(terms, own, leaders.as_slice()) {
-        take_lead(terms, slacks, number, leaders, place);
+        take_lead(slacks, number, leaders, place);
         return Ok(true);
     }
     if leaders.len() >= MOST_LEADERS {
@@ -135,23 +137,13 @@ fn has_terms(terms: &[List<Term>], number: u32, own: &[Term]) -> bool
 }
 
 /// Puts the clause of a number at the place of a leader with its terms, where it has less slack.
-fn take_lead(
-    terms: &[List<Term>],
-    slacks: &[i128],
-    number: u32,
-    leaders: &mut Vec<u32>,
-    place: usize,
-)
-    requires within { place < length leaders.old.items }
-    requires leads { slice_index_or leaders.old.items place 0 < length terms.now }
-    requires led { number < length terms.now }
-    requires alike { slice_index_or (map (λ l. l.items) terms.now) (slice_index_or leaders.old.items place 0) []
-        ≡ slice_index_or (map (λ l. l.items) terms.now) number [] }
-    ensures stays { (n : ℕ) → IsLed (map (λ l. l.items) terms.now) slacks.now leaders.old.items n
-        → IsLed (map (λ l. l.items) terms.now) slacks.now leaders.new.items n }
-    ensures led { IsLed (map (λ l. l.items) terms.now) slacks.now leaders.new.items number }
+fn take_lead(slacks: &[i128], number: u32, leaders: &mut Vec<u32>, place: usize)
+    requires { place < length leaders.old.items }
+    ensures stays { (tss : Seq (Seq Term)) → AreAlike tss (slice_index_or leaders.old.items place 0) number → (n : ℕ) →
+        IsLed tss slacks.now leaders.old.items n → IsLed tss slacks.now leaders.new.items n }
+    ensures led { (tss : Seq (Seq Term)) → AreAlike tss (slice_index_or leaders.old.items place 0) number →
+        IsLed tss slacks.now leaders.new.items number }
 {
-    let _ = terms;
     let leader = leaders[place];
     if has_less_slack(slacks, number, leader) {
         leaders[place] = number;

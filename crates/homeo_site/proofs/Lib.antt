@@ -12,7 +12,6 @@ pub mod OwnFailures
 pub mod OwnFits
 pub mod OwnSums
 pub mod OwnTerms
-pub mod OwnWrites
 pub mod PartsMade
 pub mod PlanChecks
 pub mod PlanClauses

@@ -28,9 +28,9 @@ use Rattle.homeo_build.specs.Key.{definitions as build_definitions}
 use Rattle.homeo_build.specs.Plan.{SitedResidual, sited_residual, residual_at, residuals_at}
 use Rattle.homeo_effect.specs.Touched.{WritesOwn}
 use Rattle.homeo_history.specs.Key.{definitions as history_definitions}
-use Rattle.homeo_site.proofs.OwnWrites.{writes_own}
 use Rattle.homeo_site.proofs.StepFindings.{residual_straight}
 use Rattle.homeo_site.proofs.StepsRun.{alone_runs}
+use Rattle.homeo_tests.proofs.OwnWrites.{writes_own}
 
 -- ---- on the base, before any call
 base_is_alone : (b : ℕ → ℤ) (i : ℕ) → alone b i no_deltas ≡ whole b

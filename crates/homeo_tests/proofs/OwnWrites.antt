@@ -1,4 +1,4 @@
--- The residual of a call writes deltas of its own site alone.
+-- The residual of a planned call writes deltas of its own site alone.
 use Rattle.std.proofs.Common.{◌≡◌, ℕ, List, ℤ, refl, sym, subst}
 use Rattle.homeo_syntax.specs.Source as s
 use Rattle.homeo_meaning.specs.Key.{definitions as meaning_definitions}
