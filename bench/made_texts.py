@@ -127,6 +127,30 @@ def slots_text(slots):
     return "\n".join(lines + [f"client a at 0 {{ {calls} }}", "schedule " + "a " * 20_000, "end", ""])
 
 
+def side_by_side(lines, sites, calls, call):
+    """A text of these lines with a client at each site; all clients make the same calls, and take turns."""
+    each = "; ".join(call(k) for k in range(calls // sites))
+    clients = [f"client w{site} at {site} {{ {each} }}" for site in range(sites)]
+    order = " ".join(f"w{k % sites}" for k in range(calls))
+    return "\n".join(lines + clients + [f"schedule {order}", "end", ""])
+
+
+def orders_text(calls):
+    lines = ["workload 1", "sites 4", "relation R[16] (item in 0..100, amount in 0..100)"]
+    lines += ["transaction order(i in 0..100, n in 1..9) { insert R (item = i, amount = n) into place; print(place) }"]
+    return side_by_side(lines, 4, calls, lambda k: f"order({k % 5}, {k % 9 + 1})")
+
+
+def turnover_text(slots):
+    lines = ["workload 1", "sites 4", f"relation R[{slots}] (f in 0..1000, g in 0..1000)"]
+    lines += ["transaction put(v in 0..1000) { insert R (f = v, g = 1) into place; print(place) }"]
+    lines += ["transaction look(v in 0..1000) { print(count(r of R when r.f = v)) }"]
+    lines += ["transaction total() { print(sum(r.g of R when 3 < r.f)) }"]
+    lines += ["transaction clear(v in 0..1000) { delete r of R when r.f = v }"]
+    names = ["put({0})", "look({0})", "total()", "clear({1})", "put({2})"]
+    return side_by_side(lines, 4, 1_200, lambda k: names[k % 5].format(k % 5, k % 3, (k + 1) % 5))
+
+
 def nested_text(depth):
     body = "skip"
     for k in range(depth):

@@ -1,9 +1,8 @@
 -- What the words of a command say of its numbers, and that they are one command.
-use Rattle.std.proofs.Common.{ℕ, List, subst}
+use Rattle.std.proofs.Common.{ℕ, List}
 use Rattle.homeo_words.specs.Command.{Say}
 use Rattle.homeo_words.specs.declared.command.Command.{Command}
 use Rattle.homeo_words.specs.declared.command.Command.TheVariants as c
-use Rattle.homeo_words.proofs.OneCommand.{one_command}
 use Rattle.homeo_commands.specs.Called.{HasFewCalls}
 
 pub few_calls : (words : List (List ℕ)) (command : Command) → Say words command → HasFewCalls command
@@ -17,7 +16,3 @@ few_calls words c.Certify said = tt
 few_calls words c.Verify said = tt
 few_calls words (c.Wire number) said = tt
 few_calls words (c.Load number calls) said = said.calls_are.to_most
-
--- what holds of a command that the words are holds of each that they are
-pub of_that : (words : List (List ℕ)) (Holds : Command → Type 0) (command other : Command) → Say words command → Say words other → Holds command → Holds other
-of_that words Holds command other said said' holds = subst Holds (one_command words command other said said') holds

@@ -1,5 +1,5 @@
 -- What serving a stream says of the command.
-use Rattle.std.proofs.Common.{◌≡◌, ◌⊎◌, ◌∙◌, ◌++◌, ℕ, List, ◌∷◌, None, Some, sym, ap, subst, append_assoc, append-nil, inl, inr}
+use Rattle.std.proofs.Common.{◌≡◌, ◌∙◌, ◌++◌, ℕ, List, ◌∷◌, None, Some, sym, ap, subst, append_assoc, append-nil, inl, inr}
 use Rattle.std.specs.declared.option.Option.{Option}
 use Rattle.std.specs.Io.KnownBytes.{Consumes}
 use Rattle.homeo_io.specs.Moved.{TookExactly}
@@ -8,7 +8,7 @@ use Rattle.homeo_session.specs.Streams.{IsStopped, EndRefuses, Stops}
 use Rattle.homeo_words.specs.declared.command.Command.TheVariants as c
 use Rattle.homeo_commands.specs.Reading.{most_read}
 use Rattle.homeo_commands.specs.Made.{CanBeDone, IsMade, IsRefusal, IsRefusedUnder}
-use Rattle.homeo_commands.specs.Served.{StopsRead, ServedAll, ServedTo, ServedEarly}
+use Rattle.homeo_commands.specs.Served.{StopsRead, ServedAll, ServedTo}
 use Rattle.homeo.specs.Serving.{Serves}
 use Rattle.homeo.specs.declared.status.Status.{Status as AnyStatus}
 use Rattle.homeo.specs.declared.status.Status.TheVariants as Status
@@ -55,11 +55,6 @@ served_not_refused left left' taken taken' bytes r all told refused =
     made_not_refused c.Serve left left' made.0 bytes r made.1 told refused
 
 -- ---- by the status
-pub serves_stopped :
-    (result : AnyStatus) (left left' taken taken' : Option (List ℕ)) (r : Refusal) → (result ≡ Status.Refused) ⊎ (result ≡ Status.Memory) →
-    ServedTo r left left' taken taken' → ServedEarly left left' taken taken' → Serves result left left' taken taken'
-serves_stopped result left left' taken taken' r (inl is) to early = subst (λ s. Serves s left left' taken taken') (sym is) (r, to)
-serves_stopped result left left' taken taken' r (inr is) to early = subst (λ s. Serves s left left' taken taken') (sym is) early
 
 pub serves_as : (result status : AnyStatus) (left left' taken taken' : Option (List ℕ)) → result ≡ status → Serves status left left' taken taken' → Serves result left left' taken taken'
 serves_as result status left left' taken taken' is served = subst (λ s. Serves s left left' taken taken') (sym is) served

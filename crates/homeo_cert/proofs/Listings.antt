@@ -1,5 +1,5 @@
 -- The nodes of each kind of phrase and command, as they are listed.
-use Rattle.std.proofs.Common.{◌≡◌, ℕ, zero, suc, ◌+◌, ◌<◌, ◌≤◌, ℤ, Box, Global, List, [], ◌∷◌, ◌++◌, map, drop, get_or, length, refl, sym, ap, ◌∙◌, append_assoc, length-append}
+use Rattle.std.proofs.Common.{◌≡◌, ℕ, suc, ◌+◌, ◌<◌, ◌≤◌, ℤ, Box, Global, List, [], ◌∷◌, ◌++◌, map, drop, get_or, length, refl, sym, ap, ◌∙◌, append_assoc}
 use Rattle.std.proofs.lemmas.List.{length-map}
 use Rattle.homeo_syntax.specs.Key.{definitions as syntax_definitions}
 use Rattle.homeo_syntax.specs.Listed.{Listed}
@@ -158,8 +158,3 @@ none_left before all now left p so = sym (append_nil now) ∙ ap (λ l. now ++ l
     append_nil (x ∷ xs) = ap (λ l. x ∷ l) (append_nil xs)
 
 -- ---- the first node, and what stands behind it
-pub one_alone : {A : Type 0} (before new all : List A) (x : A) → new ≡ before ++ x ∷ [] → all ≡ x ∷ [] → new ≡ before ++ all
-one_alone before new all x e p = e ∙ ap (λ l. before ++ l) (sym p)
-
-pub one_then : {A : Type 0} (before mid new rest all : List A) (x : A) → mid ≡ before ++ x ∷ [] → all ≡ x ∷ rest → new ≡ mid ++ rest → new ≡ before ++ all
-one_then before mid new rest all x e p q = q ∙ ap (λ l. l ++ rest) e ∙ append_assoc before (x ∷ []) rest ∙ ap (λ l. before ++ l) (sym p)

@@ -1,6 +1,6 @@
 //! A certificate's parts, written as JSON values.
 
-ghost use Rattle.std.specs.Prelude.{◌≡◌, [], ◌∷◌, map, ℤ, pos, OnOk};
+ghost use Rattle.std.specs.Prelude.{[], ◌∷◌, map, ℤ, pos, OnOk};
 ghost use Rattle.homeo_syntax.specs.Listed.{Listed};
 ghost use Rattle.homeo_plan.specs.PlanView.{plain_clause};
 ghost use Rattle.homeo_plan.specs.declared.templates.Clause.{Clause};

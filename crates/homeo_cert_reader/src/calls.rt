@@ -1,6 +1,6 @@
 //! Calls, read from JSON values.
 
-ghost use Rattle.std.specs.Prelude.{◌≡◌, IfOk, option_map, map};
+ghost use Rattle.std.specs.Prelude.{IfOk, option_map, map};
 ghost use Rattle.serde_json.specs.View.{view};
 ghost use Rattle.homeo_certificate.specs.Json.{list_data};
 ghost use Rattle.homeo_certificate.specs.Shape.{CallInShape};

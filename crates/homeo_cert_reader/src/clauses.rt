@@ -1,9 +1,9 @@
 //! Clauses and their bounds, read from JSON values.
 
-ghost use Rattle.std.specs.Prelude.{◌≡◌, ◌<◌, ◌-◌, ◌↔◌, ◌∷◌, [], length, slice_index_or, IsTrue, IfOk, MatchOption, option_map, map};
+ghost use Rattle.std.specs.Prelude.{◌≡◌, ◌<◌, ◌-◌, ◌↔◌, ◌∷◌, [], IsTrue, IfOk, MatchOption, option_map, map};
 ghost use Rattle.serde_json.specs.View.{view};
 ghost use Rattle.homeo_plan.specs.Each.{Each};
-ghost use Rattle.homeo_plan.specs.Linear.{AreInOrder, delta_before, deltas_of};
+ghost use Rattle.homeo_plan.specs.Linear.{AreInOrder, deltas_of};
 ghost use Rattle.homeo_plan.specs.PlanView.{plain_clause};
 ghost use Rattle.homeo_certificate.specs.Json.{list_data, whole_data, wholes_data};
 ghost use Rattle.homeo_certificate.specs.Shape.{TermInShape, ClauseInShape, BoundsInShape};

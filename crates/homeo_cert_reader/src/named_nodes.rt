@@ -1,6 +1,6 @@
 //! Nodes, read from JSON values by their names.
 
-ghost use Rattle.std.specs.Prelude.{◌≡◌, [], ◌∷◌, IfOk, option_map, map};
+ghost use Rattle.std.specs.Prelude.{[], ◌∷◌, IfOk, option_map, map};
 ghost use Rattle.serde_json.specs.Data.{string};
 ghost use Rattle.serde_json.specs.View.{view};
 ghost use Rattle.homeo_plan.specs.Each.{Each};

@@ -1,6 +1,6 @@
 //! Numbers of a certificate, read from JSON values.
 
-ghost use Rattle.std.specs.Prelude.{◌≡◌, ◌<◌, ◌^◌, pos, IfOk, option_map};
+ghost use Rattle.std.specs.Prelude.{◌<◌, ◌^◌, pos, IfOk, option_map};
 ghost use Rattle.serde_json.specs.View.{view};
 ghost use Rattle.homeo_plan.specs.Each.{Each};
 ghost use Rattle.homeo_certificate.specs.Json.{whole_data, wholes_data};

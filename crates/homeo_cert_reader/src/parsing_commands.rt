@@ -1,6 +1,6 @@
 //! Commands, read from their nodes.
 
-ghost use Rattle.std.specs.Prelude.{◌≡◌, map, option_map, IfOk};
+ghost use Rattle.std.specs.Prelude.{map, option_map, IfOk};
 ghost use Rattle.homeo_syntax.specs.Low.{Assign, If};
 ghost use Rattle.homeo_syntax.specs.LowView.{low_tests, plain_lcommand};
 ghost use Rattle.homeo_certificate.specs.Parse.{Gives, IsWhole, then, seen, many, parse_expr, parse_test, parse_temp, parse_command};

@@ -1,6 +1,6 @@
 //! Expressions, read from their nodes.
 
-ghost use Rattle.std.specs.Prelude.{◌≡◌, ℕ, map, option_map, IfOk};
+ghost use Rattle.std.specs.Prelude.{map, option_map, IfOk};
 ghost use Rattle.homeo_syntax.specs.LowView.{plain_lexpr};
 ghost use Rattle.homeo_certificate.specs.Parse.{Gives, many, parse_expr};
 

@@ -1,6 +1,6 @@
 //! Tests, read from their nodes.
 
-ghost use Rattle.std.specs.Prelude.{◌≡◌, map, option_map, IfOk};
+ghost use Rattle.std.specs.Prelude.{map, option_map, IfOk};
 ghost use Rattle.homeo_syntax.specs.Low.{Comparison};
 ghost use Rattle.homeo_syntax.specs.LowView.{plain_ltest};
 ghost use Rattle.homeo_certificate.specs.Parse.{Gives, then, seen, many, parse_expr, parse_test};

@@ -11,7 +11,7 @@ use Rattle.homeo_meaning.specs.LowMeaning.{Location, TempAt, BaseAt, DeltaAt, lo
 use Rattle.homeo_plan.specs.Each.{Each}
 use Rattle.homeo_plan.specs.declared.forms.Delta.{Delta}
 use Rattle.homeo_plan.specs.declared.forms.Term.{Term}
-use Rattle.homeo_plan.specs.Linear.{delta_of, same_delta, delta_before, Linear, add_delta, add_deltas, with_term, add_term, add_terms, scale_terms, deltas_of, constant_form, delta_form, add_forms, scale_form, is_pure, support, mix_forms, multiply_forms, Forms, base_forms, form, sum_form, product_form}
+use Rattle.homeo_plan.specs.Linear.{delta_of, same_delta, delta_before, Linear, with_term, add_term, add_terms, scale_terms, deltas_of, constant_form, delta_form, add_forms, scale_form, is_pure, support, mix_forms, multiply_forms, Forms, base_forms, form, sum_form, product_form}
 use Rattle.homeo_plan.proofs.DeltaLists.{each_puts}
 use Rattle.homeo_plan.proofs.Order.{Sorted, sorted_adds, sorted_scale}
 use Rattle.homeo_certificate.specs.Shape.{DeltaInShape, NameInShape, ExprInShape, ExprsInShape}

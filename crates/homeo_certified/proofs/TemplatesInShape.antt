@@ -4,7 +4,6 @@ use Rattle.homeo_plan.specs.Key.{definitions as plan_definitions}
 use Rattle.homeo_certificate.specs.Key.{definitions}
 use Rattle.std.proofs.Common.{◌≡◌, ℕ, suc, ◌≤◌, Bool, true, false, cond, List, [], ◌∷◌, ◌++◌, map, length, ℤ, pos, neg_ℤ, ◌+ℤ◌, ◌≤ℤ◌, refl, sym, ap, subst, arith}
 use Rattle.std.proofs.lemmas.Int.{ints}
-use Rattle.std.proofs.lemmas.Bool.Decides.{nat_tests}
 use Rattle.std.specs.Int.RustNames.{unsigned_abs}
 use Rattle.std.specs.List.{list_any}
 use Rattle.homeo_meaning.specs.LowMeaning.{whole}
@@ -14,15 +13,13 @@ use Rattle.homeo_plan.specs.Each.{Each}
 use Rattle.homeo_plan.specs.FormSizes.{Numbers}
 use Rattle.homeo_plan.specs.Limit.{form_limit}
 use Rattle.homeo_plan.specs.SmallForms.{HasSmallForms}
-use Rattle.homeo_plan.specs.declared.forms.Delta.{Delta}
 use Rattle.homeo_plan.specs.declared.forms.Term.{Term}
-use Rattle.homeo_plan.specs.Linear.{AreInOrder, same_delta, delta_before, Linear, add_delta, add_deltas, deltas_of, is_empty}
+use Rattle.homeo_plan.specs.Linear.{AreInOrder, Linear, is_empty}
 use Rattle.homeo_plan.specs.Atoms.{true_cond}
 use Rattle.homeo_plan.specs.Needs as plan
 use Rattle.homeo_plan.specs.Table.{Row, walk}
 use Rattle.homeo_plan.specs.Template.{PlannedCall, shifted, base_row, atoms_of, needs_of, Clause, clause_of, same_clause, with_clause, clauses_from, atoms_of_sets, put_all, template}
 use Rattle.homeo_plan.proofs.DeltaLists.{in_order_puts, each_put_all, terms_in_order}
-use Rattle.homeo_plan.proofs.Order.{Sorted}
 use Rattle.homeo_plan.proofs.Tables.{row_at_walk}
 use Rattle.homeo_certificate.specs.Shape.{IsWord, DeltaInShape, TermInShape, ClauseInShape, BoundsInShape, CommandInShape}
 use Rattle.homeo_certified.proofs.FormedForms.{TermCounts, base_formed}

@@ -11,7 +11,7 @@ use Rattle.homeo_syntax.specs.Source as s
 use Rattle.homeo_syntax.specs.SourceView.{exprs, tests, commands}
 use Rattle.homeo_syntax.specs.Grammar.{call, Means}
 use Rattle.homeo_syntax.specs.Rules as rules
-use Rattle.homeo_syntax.specs.Rules.{Deep, Factor, Test, Command, Tree, Rule, rule, limit, product_of, sum_of, IsWorkload}
+use Rattle.homeo_syntax.specs.Rules.{Deep, Factor, Test, Command, Tree, Rule, rule, product_of, sum_of}
 use Rattle.homeo_reader.proofs.Keeps.{Sound, Meaning, Every, Fine, sound_token, sound_nothing, sound_seq, sound_alt, sound_part, sound_as, sound_many, sound_lead, sound_closed}
 use Rattle.homeo_certified.proofs.FormNesting.{expr_depth, exprs_depth, test_depth, cond_depth, values_depth, command_depth, commands_depth}
 

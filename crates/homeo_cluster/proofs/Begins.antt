@@ -30,7 +30,7 @@ use Rattle.homeo_assembly.specs.Laws.{SiteStart, BookStart}
 use Rattle.homeo_assembly.specs.Written.{read}
 use Rattle.homeo_cluster.specs.Places.{asked_line, kept_line, done_line, shut_line, at_line, bases_line, line_count}
 use Rattle.homeo_cluster.specs.inner.Cells.{site_lists, IsCell, IsBook}
-use Rattle.homeo_cluster.specs.Passes.{PassValue, IsPass, AreBegun}
+use Rattle.homeo_cluster.specs.Passes.{PassValue, IsPass}
 use Rattle.homeo_cluster.specs.inner.Begun.{AreLeft, IsRest, IsFirst, AreFirst, first_line}
 use Rattle.homeo_cluster.proofs.LinesInOrder.{first_next, at_after_first, at_before_bases, kept_before_first, kept_before_bases, kept_after_asked, first_after_asked, bases_is_last, bases_after_asked, shut_after_done, among}
 
@@ -90,9 +90,6 @@ one_pass_more n before after p is all own none = subst (AreFirst (n + 1)) (sym i
     at_end [] p q (suc i) e = absurd (cc (e))
     at_end (x ∷ xs) p q zero e = inl e
     at_end (x ∷ xs) p q (suc i) e = ⊎_elim (λ h. inl h) (λ (h : (p ≡ q) × (i ≡ length xs)). inr (h.0, ap suc h.1)) (at_end xs p q i e)
-
-pub are_begun : (w : s.Workload) (passes : List PassValue) → AreFirst (length w.clients) passes → AreBegun w passes
-are_begun w passes all = record { all = record { count = all.count; clients = all.clients }; logs = all.logs }
 
 -- ---- a list that is written
 written_same : (h k : Held) (line : ℕ) (e : Entry) → k ≡ with_list h line (list_at h line ++ e ∷ []) → Owns h line [] → Owns k line (e ∷ [])

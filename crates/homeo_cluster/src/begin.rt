@@ -2,13 +2,12 @@
 
 ghost use Rattle.std.specs.Prelude.{◌≡◌, ◌+◌, ◌<◌, [], length, vec_len, IfOk, OnOk};
 ghost use Rattle.homeo_syntax.specs.SourceView.{plain_workload};
-ghost use Rattle.homeo_meaning.specs.Acceptance.{IsAccepted};
 ghost use Rattle.homeo_meaning.specs.Initial.{initial};
 ghost use Rattle.homeo_plan.specs.Planned.{sites_of, policy};
 ghost use Rattle.homeo_outline.specs.ObjectPlan.{config_in};
 ghost use Rattle.homeo_build.specs.Plan.{IsObjectPlan};
 ghost use Rattle.homeo_cluster.specs.Passes.{AreBegun};
-ghost use Rattle.homeo_cluster.specs.Places.{line_count, at_line, bases_line};
+ghost use Rattle.homeo_cluster.specs.Places.{line_count};
 ghost use Rattle.homeo_cluster.specs.inner.Begun.{AreLeft, IsRest, IsFirst, AreFirst, first_line};
 
 use crate::book::Book;

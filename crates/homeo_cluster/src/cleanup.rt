@@ -1,10 +1,9 @@
 //! A call that breaks its site's treaty, under the locks of the book and of all sites.
 
-ghost use Rattle.std.specs.Prelude.{◌≡◌, ℕ, ◌<◌, ◌≤◌, ◌+◌, ◌^◌, ◌∷◌, ◌++◌, [], true, length, map, take, replicate, vec_len, All, IfOk, OnErr, FitsSigned};
+ghost use Rattle.std.specs.Prelude.{◌≡◌, ℕ, ◌<◌, ◌+◌, ◌^◌, ◌∷◌, ◌++◌, [], true, length, map, take, replicate, vec_len, All, IfOk, OnErr, FitsSigned};
 ghost use Rattle.std.specs.Int.{w64};
 ghost use Rattle.homeo_syntax.specs.SourceView.{plain_workload};
 ghost use Rattle.homeo_meaning.specs.Bounds.{IsWithin};
-ghost use Rattle.homeo_meaning.specs.Initial.{initial};
 ghost use Rattle.homeo_meaning.specs.Schema.{schema_of};
 ghost use Rattle.homeo_plan.specs.Planned.{sites_of};
 ghost use Rattle.homeo_history.specs.HistoryView.{plain_answer, plain_round};
@@ -12,16 +11,13 @@ ghost use Rattle.homeo_history.specs.Answers.{called, closing_answer};
 ghost use Rattle.homeo_history.specs.Legal.{IsClientAt};
 ghost use Rattle.homeo_core.specs.Events.{BreaksCall};
 ghost use Rattle.homeo_core.specs.Books.{book_of};
-ghost use Rattle.homeo_core.specs.Joined.{AreJoined, gathered};
+ghost use Rattle.homeo_core.specs.Joined.{gathered};
 ghost use Rattle.homeo_core.specs.SiteLists.{AreAt};
-ghost use Rattle.homeo_assembly.specs.Events.{InHand, IsNext};
-ghost use Rattle.homeo_assembly.specs.Facts.{states_of};
+ghost use Rattle.homeo_assembly.specs.Events.{InHand};
 ghost use Rattle.homeo_cluster.specs.inner.Cells.{cells_of, book_state, book_lists, HoldsBook, IsBook};
 ghost use Rattle.homeo_cluster.specs.Passes.{IsReplied, next_call};
-ghost use Rattle.homeo_cluster.specs.Places.{at_line, bases_line};
-ghost use Rattle.homeo_notes.specs.Lines.{list_at};
 ghost use Rattle.homeo_cluster.specs.inner.Meets.{SameBook, AreNumbered, CellsNumbered, MetAt, MetShut, site_states};
-ghost use Rattle.homeo_cluster.specs.inner.Moves.{KeepsEach, ArePairs, AreShort};
+ghost use Rattle.homeo_cluster.specs.inner.Moves.{KeepsEach};
 ghost use Rattle.homeo_cluster.specs.inner.Renewed.{CanAsk, WasAsked};
 ghost use Rattle.homeo_cluster.specs.inner.Rows.{held_cells, CanRenew, HaveGoneOn, IsPrepared, prepared_at};
 

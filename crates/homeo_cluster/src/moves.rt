@@ -5,7 +5,6 @@ ghost use Rattle.homeo_syntax.specs.SourceView.{plain_workload};
 ghost use Rattle.homeo_notes.specs.Lines.{IsOwner, HasSeen, list_at};
 ghost use Rattle.homeo_meaning.specs.Bounds.{IsWithin};
 ghost use Rattle.homeo_meaning.specs.Schema.{schema_of};
-ghost use Rattle.homeo_plan.specs.Planned.{sites_of};
 ghost use Rattle.homeo_history.specs.Answers.{local_answer};
 ghost use Rattle.homeo_history.specs.HistoryView.{plain_entry, plain_answer};
 ghost use Rattle.homeo_history.specs.Legal.{IsClientAt, call_count};

@@ -43,10 +43,6 @@ pub refuses_long : (old new : Option (List ℕ)) (text : List ℕ) (p : Purpose)
 unfolding meaning_definitions
 refuses_long old new text p r e g is = inl (record { long = omega (arith, told_is_long old new text (text_limit + 1) e g); code = ap (λ x. x.code) is; offset = ap (λ x. x.offset) is })
 
--- a source that gave all of a text that is refused told no other
-pub refuses_given : (old new : Option (List ℕ)) (text told : List ℕ) (p : Purpose) (r : Refusal) → GaveAll old new text → IsRefused text p r → old ≡ Some told → IsRefused told p r
-refuses_given old new text told p r given refused e = subst (λ x. IsRefused x p r) (sym (told_is_given old new told text e given)) refused
-
 -- ---- texts
 -- of an accepted text this holds, as of its workload
 pub of_text : (p : Purpose) (old new : Option (List ℕ)) (Holds : s.Workload → Type 0) (w : s.Workload) → OfText p old new (λ v. v ≡ w) → Holds w → OfText p old new Holds

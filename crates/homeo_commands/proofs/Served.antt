@@ -82,10 +82,6 @@ pub owed :
 owed bytes sent piece out s t None h few goes_on stops = whole_early (bytes ++ piece) out t (goes_on refl)
 owed bytes sent piece out s t (Some r) h few goes_on stops = stop_late bytes sent piece out s r h few (stops r refl)
 
-pub not_stopped : (o : Option Refusal) → ((r : Refusal) → o ≡ Some r → ⊥) → o ≡ None
-not_stopped None h = refl
-not_stopped (Some r) h = absurd (h r refl)
-
 -- ---- what was read
 pub read_before : (left left' : Option (List ℕ)) (bytes out : List ℕ) (s : State) → IsAfter bytes out s → Consumes left left' bytes → GaveAtMost left left' (stream_limit + piece_limit)
 read_before left left' bytes out s h gave = (bytes, (let within = h.within in omega arith), gave)

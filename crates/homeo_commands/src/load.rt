@@ -1,6 +1,6 @@
 //! The generated load, run and summed up.
 
-ghost use Rattle.std.specs.Prelude.{◌≡◌, ◌≤◌, IfOk};
+ghost use Rattle.std.specs.Prelude.{◌≤◌, IfOk};
 ghost use Rattle.homeo_commands.specs.Made.{IsLoadOutput};
 
 use crate::clients::clients;

@@ -1,6 +1,6 @@
 //! Batches of calls on a stream, answered as they come.
 
-ghost use Rattle.std.specs.Prelude.{◌≡◌, ◌≢◌, ◌≤◌, ◌+◌, ◌⊎◌, ◌++◌, [], ℕ, List, Some, false};
+ghost use Rattle.std.specs.Prelude.{◌≡◌, ◌≢◌, ◌+◌, ◌++◌, [], ℕ, List, Some, false};
 ghost use Rattle.homeo_io.specs.Faults.{Rose};
 ghost use Rattle.homeo_io.specs.Moved.{GaveAtMost, TookExactly, TookPrefix};
 ghost use Rattle.homeo_syntax.specs.declared.workload.Refusal.{Refusal};

@@ -1,6 +1,6 @@
 //! The calls of a workload, made at nodes that send each other packets.
 
-ghost use Rattle.std.specs.Prelude.{◌≡◌, ◌≤◌, length, IfOk, IsErrOf};
+ghost use Rattle.std.specs.Prelude.{◌≤◌, length, IfOk, IsErrOf};
 ghost use Rattle.homeo_syntax.specs.declared.workload.Refusal.{Refusal};
 ghost use Rattle.homeo_syntax.specs.SourceView.{plain_workload};
 ghost use Rattle.homeo_wire.specs.Drive.{calls_in};

@@ -97,6 +97,3 @@ pub object_none : (os : List ObjectDecl) (ds : List Declared) (n i : ℕ) → ma
 object_none os ds n i e f h =
     kept_none ds n
     (ap (slice_get ds) (sym f) ∙ ap (λ l. slice_get l i) (sym e) ∙ slice_get-map declared_object os i ∙ ap (option_map declared_object) (slice_get_past os i h))
-
-pub missing_past : (ds : List Declared) (n : ℕ) → length ds ≤ (spot ds n).place → Missing ds n
-missing_past ds n h = kept_none ds n (slice_get_past ds (spot ds n).place h)

@@ -6,7 +6,7 @@ ghost use Rattle.homeo_meaning.specs.Schema.{declared_range, declared_relation};
 ghost use Rattle.homeo_meaning.specs.Declarations.{declarations, place_of};
 ghost use Rattle.homeo_meaning.specs.Context.{spot, find_slots, find_fields, object_count};
 ghost use Rattle.homeo_context.specs.Placed.{placed_relation, StandFrom, HasSlots};
-ghost use Rattle.homeo_context.specs.Slots.{plain_spot, slots_of, IsCounted, IsNumbered};
+ghost use Rattle.homeo_context.specs.Slots.{slots_of, IsCounted, IsNumbered};
 
 use crate::slots::Slots;
 use crate::spot::Spot;

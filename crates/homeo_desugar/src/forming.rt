@@ -1,6 +1,6 @@
 //! The L forms of commands.
 
-ghost use Rattle.std.specs.Prelude.{◌≡◌, false, map, IfOk, OnOk};
+ghost use Rattle.std.specs.Prelude.{false, map, IfOk, OnOk};
 ghost use Rattle.homeo_syntax.specs.SourceView.{commands, plain_expr, plain_cond, plain_command, plain_field};
 ghost use Rattle.homeo_syntax.specs.Source.{Assign, Print};
 ghost use Rattle.homeo_syntax.specs.LowView.{low_commands, plain_lcommand};

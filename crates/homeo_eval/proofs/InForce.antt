@@ -1,5 +1,5 @@
 -- One more row in force.
-use Rattle.std.proofs.Common.{◌≡◌, ℕ, ◌==◌, cond, List, [], length, ap, ◌∙◌}
+use Rattle.std.proofs.Common.{◌≡◌, ℕ, List, [], length, ap, ◌∙◌}
 use Rattle.homeo_context.specs.declared.slots.Slot as code
 use Rattle.homeo_context.specs.declared.context.Context as code_context
 use Rattle.homeo_context.specs.declared.context.BoundRows.{Outside, Inside}

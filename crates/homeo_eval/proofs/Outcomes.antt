@@ -1,10 +1,8 @@
 -- From an accepted workload to its calls.
-use Rattle.std.proofs.Common.{◌≡◌, ℕ, zero, suc, ◌+◌, ◌<◌, ◌≤◌, ◌==◌, Bool, true, false, cond, ℤ, pos, Option, Some, None, List, [], ◌∷◌, ◌++◌, map, length, drop, get_or, All, refl, sym, ap, ◌∙◌, subst, arith, add-one, append_assoc, drop_of_length-le}
+use Rattle.std.proofs.Common.{◌≡◌, ℕ, suc, ◌+◌, ◌<◌, ◌≤◌, Bool, true, false, cond, ℤ, pos, Option, Some, List, [], ◌∷◌, ◌++◌, map, length, drop, get_or, refl, sym, ap, ◌∙◌, subst, arith, add-one, append_assoc, drop_of_length-le}
 use Rattle.std.proofs.Math.Seq.{drop-cons}
-use Rattle.std.specs.Prelude.{slice_get, find}
-use Rattle.std.specs.Option.{option_and_then}
+use Rattle.std.specs.Prelude.{slice_get}
 use Rattle.std.proofs.lemmas.List.{append-nil}
-use Rattle.std.proofs.lemmas.Option.{slice_get_within, get_or_from_slice_get}
 use Rattle.homeo_syntax.specs.Source as s
 use Rattle.homeo_syntax.specs.declared.workload.RangeDecl.{RangeDecl}
 use Rattle.homeo_context.specs.declared.arguments.Argument.{Argument}
@@ -21,19 +19,17 @@ use Rattle.homeo_meaning.specs.Computed.{CanRunAll}
 use Rattle.homeo_eval.specs.inner.BodyRuns.{run_in, body_run}
 use Rattle.homeo_eval.specs.inner.CanRun.{can_run_all}
 use Rattle.homeo_meaning.specs.Acceptance.{weight_limit, IsLightBody}
-use Rattle.homeo_meaning.specs.Calls.{IsGroundCall}
-use Rattle.homeo_meaning.specs.Declarations.{Declarations, declarations, place_from, place_of}
+use Rattle.homeo_meaning.specs.Declarations.{Declarations, declarations, place_of}
 use Rattle.homeo_eval.specs.inner.States.{run_of}
 use Rattle.homeo_context.specs.Contexts.{call_context}
 use Rattle.homeo_meaning.specs.Serial.{start}
-use Rattle.homeo_meaning.specs.Serial.{values_of, values_from, database_like, numbered, call_of, transaction_named, arguments, outcome_at, outcome_of, call_outcome, serial}
+use Rattle.homeo_meaning.specs.Serial.{values_of, values_from, database_like, call_of, transaction_named, arguments, outcome_at, outcome_of, call_outcome, serial}
 use Rattle.homeo_eval.proofs.Fits.{runs_fit}
 use Rattle.homeo_lform.proofs.Light.{light_law}
 use Rattle.homeo_lform.proofs.Stays.{bounds_law}
 use Rattle.homeo_meaning.proofs.Sound.{IsSound}
 use Rattle.homeo_eval.proofs.States.{state_with}
 use Rattle.homeo_meaning.proofs.Within.{all_within, list_in}
-use Rattle.homeo_meaning.proofs.SomeValues.{none_some}
 use Rattle.homeo_meaning.proofs.LightCalls.{call_light}
 use Rattle.homeo_meaning.proofs.TransactionPlaces.{transaction_place}
 

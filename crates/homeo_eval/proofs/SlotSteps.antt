@@ -1,24 +1,22 @@
 -- The slots of a relation that are left in a loop over them.
-use Rattle.std.proofs.Common.{◌≡◌, ℕ, zero, suc, ◌+◌, ◌*◌, ◌-◌, ◌<◌, ◌≤◌, Bool, true, false, cond, ◌&&◌, ◌||◌, ℤ, pos, ◌+ℤ◌, ◌<ℤ◌, List, [], ◌∷◌, ◌++◌, map, length, Some, None, refl, sym, ap, ◌∙◌, subst, append-nil, arith}
-use Rattle.std.specs.Ordering.{int_eq}
-use Rattle.std.proofs.lemmas.Int.{ints}
+use Rattle.std.proofs.Common.{◌≡◌, ℕ, zero, suc, ◌+◌, ◌*◌, ◌-◌, ◌<◌, ◌≤◌, Bool, true, false, cond, ◌&&◌, ◌||◌, ℤ, ◌+ℤ◌, List, [], ◌∷◌, ◌++◌, map, length, refl, sym, ap, ◌∙◌, subst, append-nil, arith}
 use Rattle.std.proofs.lemmas.Bool.{and_parts}
 use Rattle.std.proofs.lemmas.List.{length-map}
 use Rattle.homeo_context.specs.declared.slots.Slot as code
 use Rattle.homeo_context.specs.declared.slots.Slots.{Slots}
 use Rattle.homeo_meaning.specs.Key.{definitions}
 use Rattle.homeo_meaning.specs.Schema.{Declared, declared_range}
-use Rattle.homeo_meaning.specs.Context.{Slot, spot, field_cell, slots_from, first_where, slot_at}
+use Rattle.homeo_meaning.specs.Context.{Slot, spot, field_cell, slots_from}
 use Rattle.homeo_meaning.specs.Meaning.{State, Run, done, after_prints, then_do, is_used, added, visit}
 use Rattle.homeo_meaning.specs.Small.{is_small}
 use Rattle.homeo_eval.specs.inner.CanRun.{adding_fits, visits_fit}
 use Rattle.homeo_eval.specs.inner.States.{run_of}
-use Rattle.homeo_context.specs.Slots.{plain_slot, slots_of}
+use Rattle.homeo_context.specs.Slots.{slots_of}
 use Rattle.homeo_lform.proofs.ObjectBounds.{Each}
 use Rattle.homeo_eval.proofs.Thens.{prints_twice, then_on, then_end, or_on}
 use Rattle.homeo_eval.specs.inner.Terms.{term_of}
 use Rattle.homeo_eval.specs.declared.phrases.Term.TheVariants.{Field}
-use Rattle.homeo_context.proofs.SlotLists.{slot_of, left, slot_is, left_next, left_all, left_none, at_here, at_past, at_below, first_step, first_none}
+use Rattle.homeo_context.proofs.SlotLists.{slot_of, left, left_next, left_none}
 
 -- ---- one more slot of a count or a sum
 pub record AddStep (b : ℕ) (tests passes : Slot → Bool) (term : Slot → ℤ) (t : Slots) (i : ℕ) (n : ℤ) : Type 0 where

@@ -4,7 +4,7 @@ ghost use Rattle.std.specs.Prelude.{◌≡◌, ◌≤◌, ◌<◌, ◌+◌, All,
 ghost use Rattle.homeo_syntax.specs.SourceView.{plain_field};
 ghost use Rattle.homeo_meaning.specs.Schema.{declared_range};
 ghost use Rattle.homeo_meaning.specs.Context.{slots, fields, first_where};
-ghost use Rattle.homeo_meaning.specs.Meaning.{is_free, are_within, set_fields, settings, fill, insert};
+ghost use Rattle.homeo_meaning.specs.Meaning.{is_free, are_within, set_fields, settings, insert};
 ghost use Rattle.homeo_meaning.specs.Acceptance.{weight_limit};
 ghost use Rattle.homeo_eval.specs.inner.CanRun.{values_fit};
 ghost use Rattle.homeo_eval.specs.inner.States.{state_of, Serves};

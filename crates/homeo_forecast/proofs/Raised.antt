@@ -29,13 +29,6 @@ max_swap a b c =
     (max_below y z (int_max y (int_max x z)) (max_left y (int_max x z)) (trans z (int_max x z) (int_max y (int_max x z)) (max_right x z) (max_right y (int_max x z)))) in
     antisym (int_max a (int_max b c)) (int_max b (int_max a c)) (left a b c) (left b a c)
 
--- a higher sum is the peak, and a lower one leaves it
-pub max_higher : (a b : ℤ) → int_lt b a ≡ true → int_max a b ≡ a
-max_higher a b e = ap (λ v. cond v a b) e
-
-pub max_lower : (a b : ℤ) → int_lt b a ≡ false → int_max a b ≡ b
-max_lower a b e = ap (λ v. cond v a b) e
-
 -- ---- one visit more
 pub peak_push :
     (ts : List Term) (i : ℕ) (vs : List Visit) (v : Visit) →

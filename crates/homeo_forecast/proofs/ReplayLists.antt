@@ -4,7 +4,7 @@ use mathlib.Core.Path.{fun_ext}
 use Rattle.std.proofs.Math.ListN.{set}
 use Rattle.std.proofs.lemmas.Bool.{cases_lt}
 use Rattle.std.proofs.lemmas.Bool.Decides.{nat_tests}
-use Rattle.std.proofs.lemmas.List.{take_more, map-append, length-append, length-replicate, replicate-append-replicate, get_or_append_left, get_or-append-add}
+use Rattle.std.proofs.lemmas.List.{take_more, map-append, length-append, length-replicate, get_or_append_left, get_or-append-add}
 use Rattle.homeo_syntax.specs.Listed.{Listed}
 use Rattle.homeo_syntax.specs.Source as s
 use Rattle.homeo_meaning.specs.declared.call.CallId.{CallId}
@@ -29,8 +29,6 @@ use Rattle.homeo_forecast.proofs.Prefixes.{next_is}
 use Rattle.homeo_forecast.proofs.Lists.{set_count, set_here, set_apart, same_number, same_there}
 
 -- ---- lists, one item more at a time
-pub one_more_same : {X : Type 0} (n : ℕ) (x : X) → replicate n x ++ x ∷ [] ≡ replicate (n + 1) x
-one_more_same n x = replicate-append-replicate n 1 x
 
 -- ---- rooms
 pub no_rooms : (k : ℕ) (vs : List Visit) (rs : List Room) → rs ≡ [] → HaveRooms k vs [] rs

@@ -1,5 +1,5 @@
 -- Rooms at their places, and rooms that take one visit more.
-use Rattle.std.proofs.Common.{◌≡◌, ◌⊎◌, inl, inr, ⊎_elim, ℕ, ◌+◌, ◌<◌, ◌≤◌, List, [], length, get_or, take, ℤ, pos, ◌+ℤ◌, ◌≤ℤ◌, FitsSigned, sym, ◌∙◌, subst, arith}
+use Rattle.std.proofs.Common.{◌≡◌, ◌⊎◌, inl, inr, ⊎_elim, ℕ, ◌+◌, ◌<◌, ◌≤◌, List, [], length, get_or, ℤ, pos, ◌+ℤ◌, ◌≤ℤ◌, FitsSigned, sym, ◌∙◌, subst, arith}
 use Rattle.std.specs.Int.{w128}
 use Rattle.std.proofs.Math.ListN.{set}
 use Rattle.homeo_plan.specs.Key.{definitions as plan_definitions}

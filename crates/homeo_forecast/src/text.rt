@@ -1,7 +1,7 @@
 //! The text of a forecast.
 #![tactic(auto, using(homeo_syntax::proofs::SourceViews::workload_views, crate::proofs::TextSteps::text_steps), unfolding(crate::specs::Key::definitions, homeo_print::specs::Key::definitions))]
 
-ghost use Rattle.std.specs.Prelude.{◌≡◌, ◌++◌, ◌∷◌, [], slice_get, length, map, option_map, IfOk, OnOk};
+ghost use Rattle.std.specs.Prelude.{◌≡◌, ◌++◌, [], slice_get, option_map, IfOk, OnOk};
 ghost use Rattle.std.specs.Option.{option_copied, option_map_or};
 ghost use Rattle.homeo_syntax.specs.SourceView.{plain_workload};
 ghost use Rattle.homeo_meaning.specs.Bounds.{IsWithin};

@@ -1,11 +1,8 @@
 //! The forms of expressions, as far as their numbers stay small.
 
-ghost use Rattle.std.specs.Prelude.{◌≡◌, ◌↔◌, IsTrue, pos, map, IfOk, MatchOption};
+ghost use Rattle.std.specs.Prelude.{map, IfOk};
 ghost use Rattle.homeo_syntax.specs.LowView.{low_exprs, plain_lexpr};
 ghost use Rattle.homeo_syntax.specs.Low.{Sum, Product};
-ghost use Rattle.homeo_meaning.specs.Small.{IsSmall};
-ghost use Rattle.homeo_plan.specs.FormSizes.{Numbers};
-ghost use Rattle.homeo_plan.specs.Limit.{form_limit};
 ghost use Rattle.homeo_form.specs.Checked.{Kept, Checked};
 ghost use Rattle.homeo_form.specs.Standing.{forms_of};
 

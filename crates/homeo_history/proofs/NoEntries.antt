@@ -1,13 +1,12 @@
 -- Rounds whose segments have no entries.
 use Rattle.std.proofs.Common.{◌≡◌, ℕ, zero, suc, List, [], ◌∷◌, map, length, drop, replicate, cond, eqb, refl, ap}
 use Rattle.std.specs.Prelude.{sum}
-use Rattle.std.specs.List.{flat_map}
 use Rattle.std.proofs.Common.{Bool, true, false}
 use Rattle.homeo_syntax.specs.Source as s
 use Rattle.homeo_meaning.specs.Key.{definitions as meaning_definitions}
 use Rattle.homeo_history.specs.Key.{definitions}
 use Rattle.homeo_history.specs.History.{Entry, Round}
-use Rattle.homeo_history.specs.Merge.{segment_of, put_at, merge, merged, interleave}
+use Rattle.homeo_history.specs.Merge.{segment_of, put_at, merge, merged}
 use Rattle.homeo_history.specs.Legal.{HasMerges}
 
 pub no_segment : (k site : ℕ) → segment_of (replicate k []) site ≡ []
@@ -31,14 +30,6 @@ merge_none segments none (site ∷ choice) =
 pub merged_none : (k : ℕ) (choice : List ℕ) → merged (replicate k []) choice ≡ []
 unfolding definitions
 merged_none k choice = merge_none (segment_of (replicate k [])) (no_segment k) choice
-
-pub interleave_none : (k : ℕ) (choice : List ℕ) → interleave (replicate k []) choice ≡ []
-unfolding definitions
-interleave_none k choice = ap (λ es. map (λ (e : Entry). e.call) es) (merged_none k choice)
-
-pub flat_none : (k : ℕ) → flat_map (λ (entries : List Entry). entries) (replicate k []) ≡ []
-flat_none zero = refl
-flat_none (suc k) = flat_none k
 
 pub sum_none : (k : ℕ) → sum (map (length {A = Entry}) (replicate k [])) ≡ 0
 sum_none zero = refl

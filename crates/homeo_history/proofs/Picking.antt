@@ -72,11 +72,6 @@ lowest_lower sites n m choice le lt low = (
   λ i at less. push_other i n choice (λ e. absurd (omega arith)) ∙ low.2 i at (omega arith),
 )
 
-pub lowest_more :
-    (sites k : ℕ) (choice : List ℕ) (o : Option ℕ) → k < length choice →
-    IsLowest sites (take k choice ++ get_or choice k 0 ∷ []) o → IsLowest sites (take (k + 1) choice) o
-lowest_more sites k choice o lt low = subst (λ l. IsLowest sites l o) (sym (take_more choice k 0 lt)) low
-
 -- ---- segments of views
 pub segment_long :
     (segments : List Segment) (i : ℕ) (s : Segment) → i < length segments → s ≡ get_or segments i s →

@@ -1,5 +1,5 @@
 -- The L form of a call does what the call does.
-use Rattle.std.proofs.Common.{◌≡◌, ℕ, ◌+◌, Bool, true, false, cond, List, [], length, ◌++◌, ℤ, pos, refl, sym, ap, ◌∙◌, subst, append-nil, arith}
+use Rattle.std.proofs.Common.{◌≡◌, ℕ, ◌+◌, Bool, true, false, cond, List, [], length, ◌++◌, ℤ, pos, refl, sym, ap, ◌∙◌, append-nil, arith}
 use Rattle.std.proofs.lemmas.Bool.{false≢true}
 use Rattle.std.specs.Ordering.{int_eq}
 use Rattle.homeo_syntax.specs.declared.low.Temp.TheVariants as temp
@@ -7,14 +7,12 @@ use Rattle.homeo_syntax.specs.Low as L
 use Rattle.homeo_syntax.specs.Source.{Commands}
 use Rattle.homeo_meaning.specs.Aborts.{hold_abort}
 use Rattle.homeo_meaning.specs.LowMeaning as M
-use Rattle.homeo_meaning.specs.LowWrites.{all_written}
 use Rattle.homeo_meaning.specs.Schema.{Schema}
 use Rattle.homeo_meaning.specs.Context.{Context, context}
 use Rattle.homeo_meaning.specs.Meaning.{State, Run, does_all, settled, run}
-use Rattle.homeo_meaning.specs.LForm.{forms, undo, saved_in, undoing, body_by, l_form}
-use Rattle.homeo_lform.proofs.Lifts.{seen}
-use Rattle.homeo_lform.proofs.Fresh.{Allows, forms_take}
-use Rattle.homeo_lform.proofs.Ends.{Told, told_low, told, flag_of, Ready}
+use Rattle.homeo_meaning.specs.LForm.{forms, undo, saved_in, body_by, l_form}
+use Rattle.homeo_lform.proofs.Fresh.{forms_take}
+use Rattle.homeo_lform.proofs.Ends.{Told, told_low, told, flag_of}
 use Rattle.homeo_lform.proofs.Forms.{forms_told}
 use Rattle.homeo_lform.proofs.Written.{among, forms_written, all_stay}
 use Rattle.homeo_lform.proofs.Undone.{Saved, saves_lead, saved_kept, begun, begun_sees, begun_ready, begun_saved, undo_prints, undo_down, undo_up}

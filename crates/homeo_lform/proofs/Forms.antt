@@ -1,5 +1,5 @@
 -- Every L form does what the source does.
-use Rattle.std.proofs.Common.{◌≡◌, ℕ, ◌≤◌, Bool, true, false, cond, ◌||◌, [], ◌∷◌, ℤ, pos, refl, sym, ap, ap₂, ◌∙◌, subst, arith}
+use Rattle.std.proofs.Common.{◌≡◌, ℕ, Bool, true, false, cond, ◌||◌, [], ◌∷◌, ℤ, pos, refl, sym, ap, ap₂, ◌∙◌, subst, arith}
 use Rattle.std.proofs.lemmas.Bool.{false≢true}
 use Rattle.homeo_syntax.specs.declared.low.Temp.TheVariants as temp
 use Rattle.homeo_syntax.specs.Low as L
@@ -11,7 +11,6 @@ use Rattle.homeo_meaning.specs.Context.{Slot, Context, spot, field_cell, object,
 use Rattle.homeo_meaning.specs.Meaning.{State, Run, done, set_temp, set_object, write_field, value, holds, does, does_all}
 use Rattle.homeo_meaning.specs.LForm
 use Rattle.homeo_meaning.specs.LForm.{Lifted, lift, lift_cond, set_flag, guard, as_one, clear, form, forms}
-use Rattle.homeo_lform.specs.Fresh.{flags, TakesFrom}
 use Rattle.homeo_lform.proofs.Lifts.{seen, seen_run, quiet, Lifts, quiet_front, alike_self, put_here}
 use Rattle.homeo_lform.proofs.Values.{lifts, lifts_cond}
 use Rattle.homeo_lform.proofs.Writes.{placed_does, write_does, write_indexed_does, insert_does}

@@ -8,7 +8,7 @@ use Rattle.homeo_meaning.specs.LowMeaning as M
 use Rattle.homeo_meaning.specs.Context.{Slot}
 use Rattle.homeo_meaning.specs.Meaning.{State, is_used, added}
 use Rattle.homeo_meaning.specs.LForm.{Lifted, Made, AllMade, visits, counted, equal, read, fresh}
-use Rattle.homeo_lform.proofs.Lifts.{seen, seen_run, quiet, at_fresh, Alike, Lifts, quiet_both, alike_self, alike_then, alike_below, alike_put, put_here}
+use Rattle.homeo_lform.proofs.Lifts.{seen, quiet, at_fresh, Alike, Lifts, quiet_both, alike_self, alike_then, alike_below, alike_put, put_here}
 
 -- the test of a loop at one slot
 abbrev pub loop_test : Slot → L.Cond → L.Cond
@@ -19,11 +19,6 @@ pub tested : (slot : Slot) (p : State → Bool) (m : ℕ) (s : M.State) (x : Lif
 unfolding definitions
 tested slot p m s x k =
     ap₂ ◌&&◌ (ap (λ t. is_used t slot) k.alike.sees) (k.means k.after (alike_self x.next k.after))
-
-pub seen_choice : (b : Bool) (r r' : M.Run) → seen_run (cond b r r') ≡ cond b (seen_run r) (seen_run r')
-unfolding definitions
-seen_choice true r r' = refl
-seen_choice false r r' = refl
 
 -- ---- counts and sums in the fresh temporary n
 record Counts (n m : ℕ) (s : M.State) (x : AllMade) (total : ℤ) : Type 0 where

@@ -1,5 +1,5 @@
 -- What holds of every number of the L form holds of every number of the source.
-use Rattle.std.proofs.Common.{◌≡◌, ℕ, suc, ◌+◌, ◌≤◌, Bool, true, false, ◌||◌, List, [], ◌∷◌, length, ℤ, pos, Option, Some, None, refl, sym, ap, ◌∙◌, subst, arith}
+use Rattle.std.proofs.Common.{◌≡◌, ℕ, suc, ◌+◌, Bool, true, false, ◌||◌, List, [], ◌∷◌, length, ℤ, pos, Option, Some, None, refl, sym, ap, ◌∙◌, subst, arith}
 use Rattle.homeo_syntax.specs.declared.low.Temp.TheVariants as temp
 use Rattle.homeo_syntax.specs.Low as L
 use Rattle.homeo_syntax.specs.Source.{Expr, Cond, FieldValue, Command, Commands, Skip, Assign, Write, Print, If, Block, SetField, SetRow, Foreach, Insert, Delete, Update, Abort, NoCommand, MoreCommand}
@@ -10,7 +10,7 @@ use Rattle.homeo_meaning.specs.Schema.{Declared, Schema}
 use Rattle.homeo_meaning.specs.Context.{Spot, Slot, Context, spot, cell, field_cell, object, slots, fields, bind, slot_at, context}
 use Rattle.homeo_meaning.specs.Meaning.{State, Run, done, set_object, write_field, value, holds, does, does_all}
 use Rattle.homeo_meaning.specs.LForm
-use Rattle.homeo_meaning.specs.LForm.{Lifted, Made, both, one, in_front, guard, within, guarded, write_to, write_chain, write_at, write_by, lift, lift_cond, lift_values, literal_of, as_one, loop, clear, form, forms, saves, saved_in, body_by, l_form}
+use Rattle.homeo_meaning.specs.LForm.{Made, both, one, in_front, guard, within, guarded, write_to, write_chain, write_at, write_by, lift, lift_cond, lift_values, literal_of, as_one, loop, clear, form, forms, saves, saved_in, body_by, l_form}
 use Rattle.homeo_meaning.specs.LowComputed as low
 use Rattle.homeo_meaning.specs.Computed.{is_given, Unless, OnSlots, OnSlot, CanValue, CanHold, CanValues, CanVisit, CanRun, CanRunAll}
 use Rattle.homeo_meaning.specs.LowMeaning.{whole}

@@ -1,5 +1,5 @@
 -- Objects saved before a body and set again behind it.
-use Rattle.std.proofs.Common.{◌≡◌, ℕ, zero, suc, ◌+◌, ◌<◌, ◌≤◌, ◌==◌, Bool, true, false, cond, ◌&&◌, ◌||◌, List, [], ◌∷◌, ◌++◌, length, ℤ, pos, refl, sym, ap, ◌∙◌, subst, append-nil, arith}
+use Rattle.std.proofs.Common.{◌≡◌, ℕ, suc, ◌+◌, ◌≤◌, ◌==◌, Bool, true, false, cond, ◌&&◌, ◌||◌, List, [], ◌∷◌, length, ℤ, pos, refl, ap, ◌∙◌, arith}
 use Rattle.std.specs.Ordering.{int_eq}
 use Rattle.std.proofs.lemmas.Bool.Decides.{nat_tests}
 use Rattle.homeo_syntax.specs.declared.low.Temp.TheVariants as temp
@@ -7,7 +7,7 @@ use Rattle.homeo_syntax.specs.Low as L
 use Rattle.homeo_meaning.specs.Key.{definitions}
 use Rattle.homeo_meaning.specs.LowMeaning as M
 use Rattle.homeo_meaning.specs.LForm.{saves, restores, undo}
-use Rattle.homeo_lform.proofs.Lifts.{seen, quiet, at_fresh, Alike, alike_self, alike_then, alike_below, alike_put, put_here}
+use Rattle.homeo_lform.proofs.Lifts.{seen, quiet, at_fresh, Alike, alike_self, alike_then, alike_put, put_here}
 use Rattle.homeo_lform.proofs.Fresh.{Keeps}
 use Rattle.homeo_lform.proofs.Ends.{Ready}
 use Rattle.homeo_lform.proofs.Written.{among}

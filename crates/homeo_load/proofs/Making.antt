@@ -1,5 +1,5 @@
 -- One more call, and the list of all places.
-use Rattle.std.proofs.Common.{◌≡◌, ◌<◌, ◌≤◌, ℕ, suc, ◌+◌, ◌-◌, ◌%◌, Bool, true, false, cond, List, [], ◌∷◌, ◌++◌, map, refl, sym, ap, ◌∙◌, append_assoc, append-nil, arith}
+use Rattle.std.proofs.Common.{◌≡◌, ◌<◌, ℕ, suc, ◌+◌, ◌-◌, ◌%◌, Bool, true, false, cond, List, [], ◌∷◌, ◌++◌, map, refl, sym, ap, ◌∙◌, append_assoc, arith}
 use Rattle.std.specs.Prelude.{◌==◌}
 use Rattle.std.specs.List.{range_with_len}
 use Rattle.std.proofs.lemmas.List.{map-append}
@@ -26,18 +26,6 @@ deal_more before client k state n l =
     let e : n - k ≡ suc (n - (k + 1)) = omega arith in
     append_assoc before (cond ((k % 8) == client) (load_call (next_addition state) ∷ []) []) (map load_call (dealt client (k + 1) (additions (next_state (next_state state)) (n - (k + 1)))))
     ∙ ap (λ c. before ++ c) (sym (deal_next client k state (n - (k + 1))) ∙ ap (λ m. map load_call (dealt client k (additions state m))) (sym e))
-
--- nothing is left
-pub deal_end : (before all : List s.Call) (client k state n : ℕ) → n ≤ k → before ++ map load_call (dealt client k (additions state (n - k))) ≡ all → before ≡ all
-unfolding definitions
-deal_end before all client k state n l h =
-    let e : 0 ≡ n - k = omega arith in
-    sym (append-nil before) ∙ ap (λ m. before ++ map load_call (dealt client k (additions state m))) e ∙ h
-
-pub deal_start : (client state n : ℕ) → [] ++ map load_call (dealt client 0 (additions state (n - 0))) ≡ map load_call (dealt client 0 (additions state n))
-deal_start client state n =
-    let e : n - 0 ≡ n = omega arith in
-    ap (λ m. map load_call (dealt client 0 (additions state m))) e
 
 pub deal_step : (old new all : List s.Call) (client k state n object number after : ℕ) → k < n
     → object ≡ (next_addition state).object → number ≡ (next_addition state).number → after ≡ next_state (next_state state)

@@ -1,5 +1,5 @@
 -- The transaction of a name stands at the first place of the name.
-use Rattle.std.proofs.Common.{◌≡◌, ℕ, suc, ◌==◌, Bool, true, false, cond, Option, Some, List, [], ◌∷◌, map, length, ◌<◌, ◌≤◌, get_or, None, refl, sym, ap, ◌∙◌}
+use Rattle.std.proofs.Common.{◌≡◌, ℕ, suc, ◌==◌, Bool, true, false, cond, Some, List, [], ◌∷◌, map, length, ◌<◌, ◌≤◌, get_or, None, refl, sym, ap, ◌∙◌}
 use Rattle.std.specs.Prelude.{slice_get, option_map, find}
 use Rattle.std.proofs.lemmas.Option.{slice_get_past, slice_get-map, slice_get_read}
 use Rattle.homeo_syntax.specs.Key.{definitions as syntax_definitions}

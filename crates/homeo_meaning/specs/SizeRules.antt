@@ -1,5 +1,5 @@
 -- The rules of how large calls are, how much they print, and how large their values may get.
-use Rattle.std.specs.Prelude.{ℕ, ℤ, Bool, true, false, ◌+◌, ◌*◌, ◌||◌, not, nat_lt, List, map, Option, Some, None}
+use Rattle.std.specs.Prelude.{ℕ, Bool, true, false, ◌+◌, ◌*◌, ◌||◌, not, nat_lt, List}
 use Rattle.std.specs.List.{flat_map, sum_by}
 use Rattle.homeo_syntax.specs.Source as s
 use Rattle.homeo_meaning.specs.Key.{definitions}

@@ -32,10 +32,6 @@ read_alike [] i d e lt = absurd (omega (arith, lt))
 read_alike (n ∷ ns) zero d e lt = refl
 read_alike (n ∷ ns) (suc i) d e lt = read_alike ns i d e (omega (arith, lt))
 
--- behind others
-pub has_before : (l v : ℕ) (ms : List ℕ) → has l ms ≡ true → has l (ms ++ v ∷ []) ≡ true
-has_before l v ms h = list_any-append (λ m. l == m) ms (v ∷ []) ∙ or_left (has l ms) _ h
-
 pub has_last : (v : ℕ) (ms : List ℕ) → has v (ms ++ v ∷ []) ≡ true
 has_last v ms = list_any-append (λ m. v == m) ms (v ∷ []) ∙ or_true (has v ms) _ (or_left (v == v) false (same_number v))
 

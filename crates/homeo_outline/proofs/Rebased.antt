@@ -1,11 +1,11 @@
 -- What is asked at one base and at another, item by item.
 use mir.Syntax.{w128}
-use Rattle.std.proofs.Common.{◌≡◌, ℕ, ◌+◌, ◌<◌, ◌≤◌, true, List, map, length, take, drop, get_or, ℤ, ◌+ℤ◌, ◌-ℤ◌, ◌*ℤ◌, neg_ℤ, Option, None, Some, SomeIff, IfSome, FitsSigned, Decides, sym, ap, ap₂, ◌∙◌}
+use Rattle.std.proofs.Common.{◌≡◌, ℕ, ◌+◌, ◌<◌, ◌≤◌, true, List, length, drop, get_or, ℤ, ◌+ℤ◌, ◌-ℤ◌, ◌*ℤ◌, neg_ℤ, Option, None, Some, SomeIff, IfSome, FitsSigned, Decides, sym, ap, ap₂, ◌∙◌}
 use Rattle.std.specs.Ordering.{int_eq}
 use Rattle.std.specs.Option.{option_eq}
 use Rattle.std.specs.Cmp.Lexicographic.{pointwise, pointwise_decides}
 use Rattle.std.proofs.Math.IntN.{+ℤ_assoc, +ℤ_idr}
-use Rattle.std.proofs.lemmas.List.{take_all, at_drop_more, at_drop_all}
+use Rattle.std.proofs.lemmas.List.{at_drop_more, at_drop_all}
 use Rattle.homeo_plan.specs.declared.forms.Delta.{Delta}
 use Rattle.homeo_plan.specs.declared.forms.Term.{Term}
 use Rattle.homeo_plan.specs.Linear.{same_delta}
@@ -64,7 +64,3 @@ pub deltas_same : (ds es : List Delta) → pointwise same_delta ds es ≡ true �
 deltas_same ds es = (pointwise_decides same_delta_decides ds es).0
 
 -- ---- two lists that are made into the same
-pub matched_all :
-    {X Y Z : Type 0} (f : X → Z) (h : Y → Z) (xs : List X) (ys : List Y) (i : ℕ) → length xs ≤ i → length ys ≤ i →
-    map f (take i xs) ≡ map h (take i ys) → map f xs ≡ map h ys
-matched_all f h xs ys i past end so_far = sym (ap (map f) (take_all i xs past)) ∙ so_far ∙ ap (map h) (take_all i ys end)

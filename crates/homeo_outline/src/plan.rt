@@ -3,7 +3,7 @@
 ghost use Rattle.std.specs.Prelude.{◌≡◌, ◌+◌, ◌<◌, ◌^◌, ◌++◌, length, map, IfOk, OnOk};
 ghost use Rattle.homeo_plan.specs.PlanView.{plain_clause, plain_template};
 ghost use Rattle.homeo_plan.specs.declared.templates.Clause.{Clause};
-ghost use Rattle.homeo_outline.specs.ObjectPlan.{clauses_with, template_with};
+ghost use Rattle.homeo_outline.specs.ObjectPlan.{template_with};
 
 use crate::leaders::Leaders;
 use crate::outline::Outline;

@@ -1,6 +1,6 @@
 -- The L form of a ground call names whole objects only, and keeps within bounds.
 use Rattle.homeo_meaning.specs.Key.{definitions as meaning_definitions}
-use Rattle.std.proofs.Common.{◌≡◌, ℕ, List, map, slice_get, ℤ, Option, Some, None, sym, subst}
+use Rattle.std.proofs.Common.{ℕ, List, map, slice_get, ℤ, Option, Some, None, sym, subst}
 use Rattle.homeo_syntax.specs.Source as s
 use Rattle.homeo_meaning.specs.Bounds.{IsIn, all_bounds, bounds_at}
 use Rattle.homeo_meaning.specs.CallForm.{body_form, ground_form}

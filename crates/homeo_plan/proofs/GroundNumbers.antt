@@ -1,7 +1,7 @@
 -- The numbers of a database within the bounds of an accepted workload are small, and so is what a ground call computes on it.
 use Rattle.homeo_meaning.specs.Key.{definitions as meaning_definitions}
 use Rattle.homeo_plan.specs.Key.{definitions}
-use Rattle.std.proofs.Common.{◌≡◌, ℕ, ◌≤◌, ◌^◌, ℤ, true, List, map, Option, Some, None, slice_get, refl, sym, subst, arith}
+use Rattle.std.proofs.Common.{◌≡◌, ℕ, ◌≤◌, ℤ, List, map, Option, Some, None, slice_get, refl, sym, subst, arith}
 use mathlib.Core.Path.{fun_ext}
 use Rattle.std.specs.Int.RustNames.{unsigned_abs}
 use Rattle.homeo_syntax.specs.Source as s
@@ -13,7 +13,6 @@ use Rattle.homeo_meaning.specs.Calls.{IsGroundCall}
 use Rattle.homeo_meaning.specs.Ground.{Ground}
 use Rattle.homeo_meaning.specs.LowComputed.{CanRun}
 use Rattle.homeo_meaning.specs.LowMeaning.{Location, TempAt, BaseAt, DeltaAt, State, whole}
-use Rattle.homeo_meaning.specs.LowWeights.{first_weights, is_light}
 use Rattle.homeo_meaning.specs.Schema.{schema_of}
 use Rattle.homeo_meaning.specs.Small.{IsSmall}
 use Rattle.homeo_meaning.proofs.FaultParts.{NoFault, parts}

@@ -1,13 +1,13 @@
 -- How many rows a table has.
 use Rattle.homeo_meaning.specs.Key.{definitions as meaning_definitions}
 use Rattle.homeo_plan.specs.Key.{definitions}
-use Rattle.std.proofs.Common.{◌≡◌, ℕ, ◌+◌, ◌*◌, List, [], ◌∷◌, ◌++◌, map, length, refl, sym, ap, ap₂, ◌∙◌, arith}
+use Rattle.std.proofs.Common.{◌≡◌, ℕ, ◌+◌, ◌*◌, List, [], ◌∷◌, map, length, refl, sym, ap, ap₂, ◌∙◌, arith}
 use Rattle.std.proofs.Math.Nat.{mul_assoc, add-mul}
 use Rattle.std.proofs.lemmas.List.{length-append, length-map}
 use Rattle.homeo_syntax.specs.declared.low.SplitName.TheVariants.{Whole, Base, Delta}
-use Rattle.homeo_syntax.specs.Low.{Expr, Command, Commands, Skip, Assign, Write, Print, Seq, If, NoCommand, MoreCommand}
+use Rattle.homeo_syntax.specs.Low.{Command, Commands, Skip, Assign, Write, Print, Seq, If, NoCommand, MoreCommand}
 use Rattle.homeo_meaning.specs.LowSizes.{rows, rows_all}
-use Rattle.homeo_plan.specs.Split.{shift, shift_all, shift_write}
+use Rattle.homeo_plan.specs.Split.{shift, shift_all}
 use Rattle.homeo_plan.specs.Table.{Row, test_before, otherwise, before, all_before, clear_row, last_row, table}
 use Rattle.homeo_plan.specs.Template.{PlannedCall, shifted}
 

@@ -4,7 +4,6 @@ use Rattle.homeo_plan.specs.Key.{definitions}
 use Rattle.std.proofs.Common.{◌≡◌, ℕ, ◌<◌, nat_lt, Bool, true, false, cond, List, [], ◌∷◌, length, ℤ, pos, ◌+ℤ◌, ◌*ℤ◌, ◌≤ℤ◌, refl, sym, ap, ap₂, ◌∙◌, arith}
 use Rattle.std.proofs.lemmas.Int.{ints}
 use Rattle.std.proofs.lemmas.Bool.Decides.{nat_tests}
-use Rattle.homeo_meaning.specs.LowMeaning.{State}
 use Rattle.homeo_plan.specs.Each.{Each}
 use Rattle.homeo_plan.specs.Split.{sum_from}
 use Rattle.homeo_plan.specs.Joined.{Deltas, join}

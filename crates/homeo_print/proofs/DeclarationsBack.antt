@@ -12,7 +12,7 @@ use Rattle.homeo_syntax.specs.declared.token.Version.TheVariants.{First, Second}
 use Rattle.homeo_syntax.specs.Versions.{version_number}
 use Rattle.homeo_syntax.specs.Grammar.{alt, seq, as_value, Means, Spells}
 use Rattle.homeo_syntax.specs.Rules as rules
-use Rattle.homeo_syntax.specs.Rules.{Rule, rule, value_in, number_at, minus_number, offset_of}
+use Rattle.homeo_syntax.specs.Rules.{Rule, rule, value_in, minus_number, offset_of}
 use Rattle.homeo_print.specs.Key.{definitions}
 use Rattle.homeo_print.specs.TokensOf.{Kinds, value_of, number_of, object_kinds, decl_kinds, relation_kinds, transaction_kinds, call_kinds, client_kinds, schedule_kinds, separated, weights_kinds, workload_kinds}
 use Rattle.homeo_print.specs.Offsets.{number_without, object_without, decl_without, relation_without, transaction_without, call_without, client_without, schedule_without, without_offsets}

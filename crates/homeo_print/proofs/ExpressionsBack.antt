@@ -13,7 +13,7 @@ use Rattle.homeo_syntax.specs.Source as s
 use Rattle.homeo_syntax.specs.SourceView.{exprs}
 use Rattle.homeo_syntax.specs.Grammar.{call, seq, alt, as_value, Repeats, Spells, Means}
 use Rattle.homeo_syntax.specs.Rules as rules
-use Rattle.homeo_syntax.specs.Rules.{Deep, Factor, Test, Tree, Rule, rule, lead, closed, name_in, value_in, ident_at, product_of, sum_of}
+use Rattle.homeo_syntax.specs.Rules.{Factor, Test, Rule, rule, lead, closed, value_in, product_of, sum_of}
 use Rattle.homeo_print.specs.Key.{definitions}
 use Rattle.homeo_print.specs.TokensOf.{Kinds, parenthesised, Alone, AsTerm, AsFactor, expr_at, sum_kinds, later_terms, product_kinds, later_factors, test_kinds, cond_kinds}
 use Rattle.homeo_print.specs.Offsets.{expr_without, exprs_without, test_without, cond_without}

@@ -1,7 +1,6 @@
 -- No text of version 1 has a mark of version 2: its grammar takes none.
 use Rattle.std.proofs.Common.{◌≡◌, ℕ, zero, suc, Bool, true, false, not, ◌&&◌, List, [], ◌∷◌, ◌++◌, map, refl, sym, ap, subst, ◌∙◌, inl, inr}
 use Rattle.homeo_syntax.specs.Key.{definitions as syntax_definitions}
-use Rattle.homeo_syntax.specs.declared.token.Mark.{Mark}
 use Rattle.homeo_syntax.specs.declared.token.Mark.TheVariants as mark
 use Rattle.homeo_syntax.specs.declared.token.Kind.{Kind}
 use Rattle.homeo_syntax.specs.declared.token.Kind.TheVariants as kind
@@ -10,9 +9,9 @@ use Rattle.homeo_syntax.specs.declared.token.Version.{Version}
 use Rattle.homeo_syntax.specs.declared.token.Version.TheVariants.{First, Second}
 use Rattle.homeo_syntax.specs.Source as s
 use Rattle.homeo_syntax.specs.Classes.{class_of, number_of}
-use Rattle.homeo_syntax.specs.Grammar.{Grammar, token, nothing, call, seq, alt, many, part, as_value, has, takes, Spells, Repeats, Means}
+use Rattle.homeo_syntax.specs.Grammar.{Grammar, token, nothing, call, seq, alt, many, part, as_value, has, Spells, Repeats, Means}
 use Rattle.homeo_syntax.specs.Rules.{Deep, Factor, Test, Command, Tree, rule, limit, workload}
-use Rattle.homeo_syntax.specs.Versions.{is_later, CanMark}
+use Rattle.homeo_syntax.specs.Versions.{CanMark}
 use Rattle.homeo_syntax.specs.WellFormed.{Each}
 use Rattle.homeo_print.proofs.Atoms.{kinds_of}
 

@@ -1,5 +1,5 @@
 -- The names of objects, with one more.
-use Rattle.std.proofs.Common.{◌≡◌, ℕ, suc, ◌+◌, ◌<◌, List, [], ◌∷◌, ◌++◌, map, length, take, get_or, append_assoc, append-nil, zero-add, add-one, length-append, refl, sym, ap, ◌∙◌, arith}
+use Rattle.std.proofs.Common.{◌≡◌, ℕ, ◌+◌, ◌<◌, List, [], ◌∷◌, ◌++◌, map, length, take, get_or, append_assoc, append-nil, zero-add, add-one, refl, sym, ap, ◌∙◌, arith}
 use Rattle.std.specs.Prelude.{Vec, Option, Some, None, slice_get, unwrap_or}
 use Rattle.std.specs.List.{flat_map, range_with_len}
 use Rattle.std.specs.Option.{option_map, option_map_or}
@@ -60,11 +60,6 @@ pub object_names_are : (w : Workload) → object_names (plain_workload w) ≡ de
 unfolding definitions syntax_definitions
 object_names_are w =
     ap (λ names. declared_names (plain_workload w) w.objects.items ++ names) (flat_map-map (relation_names (plain_workload w)) plain_relation w.relations.items)
-
-pub length_object_names : (w : Workload) → length (object_names (plain_workload w)) ≡ length w.objects.items + length (names_of (plain_workload w) w.relations.items)
-length_object_names w =
-    let declared = declared_names (plain_workload w) w.objects.items in
-    omega (arith, ap length (object_names_are w), length-append declared (names_of (plain_workload w) w.relations.items), length_declared (plain_workload w) w.objects.items)
 
 pub names_more : (w : s.Workload) (relations : List RelationDecl) (i : ℕ) (r : RelationDecl) → i < length relations → r ≡ get_or relations i r → names_of w (take (i + 1) relations) ≡ names_of w (take i relations) ++ relation_names w (plain_relation r)
 names_more w relations i r within is =

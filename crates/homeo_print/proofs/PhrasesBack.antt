@@ -11,7 +11,7 @@ use Rattle.homeo_syntax.specs.Source as s
 use Rattle.homeo_syntax.specs.SourceView.{commands}
 use Rattle.homeo_syntax.specs.Grammar.{call, Means}
 use Rattle.homeo_syntax.specs.Rules as rules
-use Rattle.homeo_syntax.specs.Rules.{Deep, Command, rule}
+use Rattle.homeo_syntax.specs.Rules.{Command, rule}
 use Rattle.homeo_print.specs.Key.{definitions}
 use Rattle.homeo_print.specs.TokensOf.{Kinds, name_of, parenthesised, separated, braced, expr_at, Alone, cond_kinds, setting_kinds, command_kinds, commands_kinds, later_commands}
 use Rattle.homeo_print.specs.Offsets.{expr_without, cond_without, field_without, command_without, commands_without}

@@ -10,7 +10,7 @@ use Rattle.homeo_syntax.specs.Source as s
 use Rattle.homeo_syntax.specs.SourceView.{tests}
 use Rattle.homeo_syntax.specs.Grammar.{call}
 use Rattle.homeo_syntax.specs.Rules as rules
-use Rattle.homeo_syntax.specs.Rules.{Deep, Test}
+use Rattle.homeo_syntax.specs.Rules.{Test}
 use Rattle.homeo_print.specs.Key.{definitions}
 use Rattle.homeo_print.specs.TokensOf.{Kinds, comparison_mark, expr_at, Alone, test_kinds, cond_kinds, later_tests, rows_kinds}
 use Rattle.homeo_print.specs.Offsets.{ident_without, expr_without, test_without, cond_without}

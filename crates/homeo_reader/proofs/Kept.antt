@@ -18,7 +18,7 @@ use Rattle.homeo_syntax.specs.SourceView.{exprs, tests, commands}
 use Rattle.homeo_syntax.specs.Classes.{name_class}
 use Rattle.homeo_syntax.specs.Grammar.{call, takes, Means}
 use Rattle.homeo_syntax.specs.Rules as rules
-use Rattle.homeo_syntax.specs.Rules.{Deep, Factor, Test, Command, Tree, Rule, rule, limit, fixed, lead, closed, name_in, value_in, is_natural, is_natural_value, product_of, sum_of}
+use Rattle.homeo_syntax.specs.Rules.{Deep, Factor, Test, Command, Tree, Rule, rule, limit, name_in, value_in, is_natural, is_natural_value, product_of, sum_of}
 use Rattle.homeo_syntax.specs.WellFormed.{Each, EachInExpr, EachInExprs, EachInTest, EachInCond, EachInCommand, EachInCommands, EachInFields, InSchedule, EachIdent, IsBelow, HasWeights}
 use Rattle.homeo_syntax.specs.Versions.{version_number}
 use Rattle.homeo_reader.proofs.Keeps.{Sound, Meaning, Every, sound_token, sound_nothing, sound_seq, sound_alt, sound_part, sound_as, sound_many, sound_lead, sound_closed}

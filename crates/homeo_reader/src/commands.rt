@@ -1,6 +1,6 @@
 //! Commands and blocks.
 
-ghost use Rattle.std.specs.Prelude.{◌≡◌, ◌<◌, [], ◌∷◌, option_map};
+ghost use Rattle.std.specs.Prelude.{◌<◌, [], ◌∷◌, option_map};
 ghost use Rattle.homeo_syntax.specs.SourceView.{plain_command};
 ghost use Rattle.homeo_reader.specs.inner.Reading.{Gives, with_front};
 ghost use Rattle.homeo_reader.specs.inner.Commands.{command_views, block_view, abort_read, command_read, if_read, foreach_read, next_command_read, commands_read, block_read};

@@ -5,12 +5,9 @@ use Rattle.std.specs.Fmt.{signed_decimal}
 use Rattle.std.specs.List.{list_all}
 use Rattle.homeo_syntax.specs.Source as s
 use Rattle.homeo_history.specs.History.{Entry}
-use Rattle.homeo_report.specs.Key.{definitions}
-use Rattle.homeo_print.specs.Key.{definitions as print_definitions}
 use Rattle.homeo_print.specs.Names.{numbers_text}
-use Rattle.homeo_report.specs.Report.{client_text, made_text, entry_line}
+use Rattle.homeo_report.specs.Report.{client_text, made_text}
 use Rattle.homeo_plan.specs.declared.treaty.Broken.{Broken}
-use Rattle.homeo_report.specs.Report.{closing_heading}
 use Rattle.homeo_report.proofs.Splits.{cut_same, all_append, one_fails}
 use Rattle.homeo_report.proofs.Bytes.{is_not, IsLine, decimal_all, signed_all}
 use Rattle.homeo_report.proofs.Words.{PassesNumbers, numbers_no_newline, numbers_no_colon, client_all, made_all, prints_all}
@@ -37,14 +34,6 @@ round_words n = codes "round " ++ decimal n
 
 abbrev pub site_words : ℕ → List ℕ
 site_words i = codes "site " ++ decimal i
-
-pub entry_line_words : (w : s.Workload) (e : Entry) → entry_line w e ≡ entry_words w e ++ 10 ∷ []
-unfolding definitions print_definitions
-entry_line_words w e = refl
-
-pub closing_heading_words : (site : ℕ) (f : Broken) → closing_heading site f ≡ closing_words site f ++ 10 ∷ []
-unfolding definitions print_definitions
-closing_heading_words site f = refl
 
 -- ---- entries
 -- a colon stands in the lines of entries, and in no others

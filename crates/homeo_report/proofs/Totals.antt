@@ -14,8 +14,7 @@ use Rattle.homeo_history.specs.declared.history.Closing.{Closing}
 use Rattle.homeo_history.specs.declared.history.Entry.{Entry}
 use Rattle.homeo_history.specs.declared.history.Segment.{Segment}
 use Rattle.homeo_history.specs.declared.history.Round.{Round}
-use Rattle.homeo_print.proofs.OneMore.{views_more}
-use Rattle.homeo_report.specs.Summary.{prints_in, prints_of}
+use Rattle.homeo_report.specs.Summary.{prints_in}
 
 -- of two lists of entries, the one's and the other's
 pub both_prints : (xs ys : List h.Entry) → length (prints_in (xs ++ ys)) ≡ length (prints_in xs) + length (prints_in ys)
@@ -27,16 +26,6 @@ pub one_prints : (e : h.Entry) → length (prints_in (e ∷ [])) ≡ length e.pr
 unfolding definitions
 one_prints e = ap length (append-nil e.prints)
 
-pub entries_print :
-    (entries : List Entry) (i : ℕ) (e : Entry) → i < length entries → e ≡ get_or entries i e →
-    length (prints_in (map plain_entry (take (i + 1) entries))) ≡
-    length (prints_in (map plain_entry (take i entries))) + length e.prints.items
-unfolding history_definitions
-entries_print entries i e within is =
-    ap (λ es. length (prints_in es)) (views_more plain_entry entries i e within is)
-    ∙ both_prints (map plain_entry (take i entries)) (plain_entry e ∷ [])
-    ∙ ap (λ n. length (prints_in (map plain_entry (take i entries))) + n) (one_prints (plain_entry e))
-
 segments_more :
     (segments : List Segment) (i : ℕ) (s : Segment) → i < length segments → s ≡ get_or segments i s →
     flat_map plain_segment (take (i + 1) segments) ≡ flat_map plain_segment (take i segments) ++ plain_segment s
@@ -44,26 +33,6 @@ segments_more segments i s within is =
     ap (flat_map plain_segment) (take_more segments i s within)
     ∙ flat_map-append plain_segment (take i segments) (get_or segments i s ∷ [])
     ∙ ap (λ l. flat_map plain_segment (take i segments) ++ l) (append-nil (plain_segment (get_or segments i s)) ∙ ap plain_segment (sym is))
-
-pub segments_print :
-    (segments : List Segment) (i : ℕ) (s : Segment) → i < length segments → s ≡ get_or segments i s →
-    length (prints_in (flat_map plain_segment (take (i + 1) segments))) ≡
-    length (prints_in (flat_map plain_segment (take i segments))) + length (prints_in (map plain_entry s.entries.items))
-unfolding history_definitions
-segments_print segments i s within is =
-    ap (λ es. length (prints_in es)) (segments_more segments i s within is)
-    ∙ both_prints (flat_map plain_segment (take i segments)) (plain_segment s)
-
-pub rounds_print :
-    (rounds : List Round) (i : ℕ) (r : Round) → i < length rounds → r ≡ get_or rounds i r →
-    length (prints_of (map plain_round (take (i + 1) rounds))) ≡
-    length (prints_of (map plain_round (take i rounds))) + length (prints_in (entries_of (plain_round r)))
-unfolding definitions
-rounds_print rounds i r within is =
-    let first : List h.Round = map plain_round (take i rounds) in
-    ap (λ rs. length (prints_in (flat_map entries_of rs))) (views_more plain_round rounds i r within is)
-    ∙ ap (λ es. length (prints_in es)) (flat_map-append entries_of first (plain_round r ∷ []) ∙ ap (λ l. flat_map entries_of first ++ l) (append-nil (entries_of (plain_round r))))
-    ∙ both_prints (flat_map entries_of first) (entries_of (plain_round r))
 
 -- ---- a round's entries
 pub open_entries : (r : Round) → r.closing ≡ None → entries_of (plain_round r) ≡ flat_map plain_segment r.segments.items

@@ -27,9 +27,6 @@ numbers_no_newline = record { digits = λ d l. digit_is_not d 10 l (λ e. omega 
 pub numbers_no_colon : PassesNumbers (is_not 58)
 numbers_no_colon = record { digits = λ d l. digit_is_not d 58 l (λ e. omega (arith, e, l)); minus = refl }
 
-pub numbers_no_space : PassesNumbers (is_not 32)
-numbers_no_space = record { digits = λ d l. digit_is_not d 32 l (λ e. omega (arith, e)); minus = refl }
-
 -- a test that the names of the workload pass
 pub client_all : (w : s.Workload) (p : ℕ → Bool) → ((i : ℕ) → list_all p (unwrap_or (slice_get w.names i) []) ≡ true) → (id : CallId) → list_all p (client_text w id) ≡ true
 unfolding definitions print_definitions

@@ -1,11 +1,10 @@
 //! The text of a summary: how many calls a history has, how much they printed, and the database that they leave.
 #![tactic(auto, unfolding(crate::specs::Key::definitions, homeo_history::specs::Key::definitions))]
 
-ghost use Rattle.std.specs.Prelude.{◌≡◌, ◌+◌, map, length, option_map, IfOk};
+ghost use Rattle.std.specs.Prelude.{◌≡◌, ◌+◌, map, length, IfOk};
 ghost use Rattle.std.specs.List.{flat_map};
-ghost use Rattle.std.specs.Option.{option_to_list};
 ghost use Rattle.homeo_syntax.specs.SourceView.{plain_workload};
-ghost use Rattle.homeo_history.specs.HistoryView.{plain_entry, plain_segment, plain_closing, plain_round, plain_history};
+ghost use Rattle.homeo_history.specs.HistoryView.{plain_entry, plain_segment, plain_round, plain_history};
 ghost use Rattle.homeo_history.specs.Legal.{entries_of, calls_of};
 ghost use Rattle.homeo_report.specs.Report.{CanReport};
 ghost use Rattle.homeo_report.specs.Summary.{prints_in, prints_of, summary};

@@ -15,7 +15,7 @@ use Rattle.homeo_meaning.specs.Bindings.{Scope}
 use Rattle.homeo_meaning.specs.NameRules.{when, fault}
 use Rattle.homeo_meaning.specs.NumberRules.{arguments_outside, site_faults}
 use Rattle.homeo_meaning.specs.CallRules as c
-use Rattle.homeo_meaning.specs.CallRules.{argument_faults, call_faults, client_faults}
+use Rattle.homeo_meaning.specs.CallRules.{argument_faults, call_faults}
 use Rattle.homeo_rules.specs.inner.Deciding.{keep_all}
 use Rattle.homeo_meaning.specs.declared.rules.Fault.{Fault}
 use Rattle.homeo_meaning.specs.declared.rules.Item.TheVariants as I

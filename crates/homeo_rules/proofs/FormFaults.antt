@@ -1,5 +1,5 @@
 -- Which of the faults of L forms decides, by those of sizes and prints, and then of weights and rows.
-use Rattle.std.proofs.Common.{◌≡◌, ◌≤◌, All, true, false, List, [], ◌∷◌, ◌++◌, map, length, Option, Some, None, refl, sym, ap, subst, ◌∙◌, append_assoc}
+use Rattle.std.proofs.Common.{◌≡◌, ◌≤◌, All, true, false, List, [], ◌++◌, map, length, Option, Some, None, sym, ap, subst, ◌∙◌, append_assoc}
 use Rattle.std.proofs.lemmas.List.{length-map}
 use Rattle.std.specs.List.{flat_map}
 use Rattle.homeo_syntax.specs.Key.{definitions as syntax_definitions}

@@ -11,7 +11,7 @@ use Rattle.homeo_syntax.specs.declared.workload.Transaction.{Transaction}
 use Rattle.homeo_meaning.specs.Key.{definitions as meaning_definitions}
 use Rattle.homeo_meaning.specs.Bindings.{Scope}
 use Rattle.homeo_meaning.specs.LForm.{l_form}
-use Rattle.homeo_meaning.specs.Schema.{Schema, schema_of, nat_of}
+use Rattle.homeo_meaning.specs.Schema.{schema_of, nat_of}
 use Rattle.homeo_meaning.specs.GlobalNames.{transaction_at}
 use Rattle.homeo_meaning.specs.GlobalNames as g
 use Rattle.homeo_meaning.specs.CallForm.{body_form}

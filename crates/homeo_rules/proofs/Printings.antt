@@ -18,7 +18,6 @@ use Rattle.homeo_meaning.specs.GlobalNames as g
 use Rattle.homeo_meaning.specs.GlobalNames.{transaction_at}
 use Rattle.homeo_meaning.specs.LForm.{l_form}
 use Rattle.homeo_meaning.specs.LowSizes.{prints_in}
-use Rattle.homeo_meaning.specs.Schema.{Schema, schema_of}
 use Rattle.homeo_meaning.specs.CallForm.{body_form, call_form}
 use Rattle.homeo_meaning.specs.SizeRules.{prints_too_much}
 use Rattle.homeo_rules.specs.inner.Deciding.{keep_all}

@@ -15,7 +15,6 @@ use Rattle.homeo_syntax.specs.declared.command.FieldValue.{FieldValue}
 use Rattle.homeo_syntax.specs.declared.command.Command.{Command}
 use Rattle.homeo_syntax.specs.declared.command.Command as C
 use Rattle.homeo_syntax.proofs.SourceViews as v
-use Rattle.homeo_syntax.proofs.SourceViews.{phrase_views, command_views}
 use Rattle.homeo_meaning.specs.Key.{definitions as meaning_definitions}
 use Rattle.homeo_meaning.specs.Bindings.{Row, Scope}
 use Rattle.homeo_meaning.specs.Occurrences.{Occurrence, at, within, in_expr, in_exprs, in_test, in_cond, in_fields, in_command, in_commands, DeclaresRow, TakesObject, TakesRelation, TakesValue, TakesField, NamesField, FillsFields, Assigns}

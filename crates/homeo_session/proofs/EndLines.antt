@@ -29,28 +29,12 @@ end_word (b ∷ line) zero lt h = go (is_blank b) h
     go true e = absurd (true≢false e)
 end_word (b ∷ line) (suc at) lt h = end_word line at (omega arith) h
 
-pub end_none : (line : List ℕ) (n : ℕ) → length line ≤ n → is_end (drop n line) ≡ false
-end_none [] zero le = refl
-end_none [] (suc n) le = refl
-end_none (b ∷ line) zero le = absurd (omega arith)
-end_none (b ∷ line) (suc n) le = end_none line n (omega arith)
-
 -- ---- the last line
-pub line_none : (bytes : List ℕ) (n : ℕ) → length bytes ≤ n → is_line (drop n bytes) ≡ true
-line_none [] zero le = refl
-line_none [] (suc n) le = refl
-line_none (b ∷ bytes) zero le = absurd (omega arith)
-line_none (b ∷ bytes) (suc n) le = line_none bytes n (omega arith)
 
 back : (bytes : List ℕ) (m : ℕ) → m < length bytes → (get_or bytes m 0 == newline) ≡ false → is_line (drop (suc m) bytes) ≡ true → is_line (drop m bytes) ≡ true
 back [] m lt other h = absurd (omega arith)
 back (b ∷ bytes) zero lt other h = ap₂ (λ x y. not x && y) other h
 back (b ∷ bytes) (suc m) lt other h = back bytes m (omega arith) other h
-
-pub line_back : (bytes : List ℕ) (at : ℕ) → 0 < at → at ≤ length bytes → (get_or bytes (at - 1) 0 == newline) ≡ false → is_line (drop at bytes) ≡ true → is_line (drop (at - 1) bytes) ≡ true
-line_back bytes at some le other h =
-    let same : at ≡ suc (at - 1) = omega arith in
-    back bytes (at - 1) (omega arith) other (subst (λ n. is_line (drop n bytes) ≡ true) same h)
 
 pub whole_last : (bytes : List ℕ) → is_line bytes ≡ true → last_line bytes ≡ bytes
 whole_last [] h = refl

@@ -1,6 +1,6 @@
 //! The head of a session, and what its batches are answered by.
 
-ghost use Rattle.std.specs.Prelude.{◌≡◌, ◌++◌, ℕ, List, [], IfOk, IsErrOf};
+ghost use Rattle.std.specs.Prelude.{◌≡◌, ◌++◌, ℕ, List, IfOk, IsErrOf};
 ghost use Rattle.homeo_syntax.specs.SourceView.{plain_workload};
 ghost use Rattle.homeo_syntax.specs.WellFormed.{IsWellFormed};
 ghost use Rattle.homeo_syntax.specs.declared.workload.Refusal.{Refusal};

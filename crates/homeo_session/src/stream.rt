@@ -1,6 +1,6 @@
 //! A stream, byte by byte.
 
-ghost use Rattle.std.specs.Prelude.{◌≡◌, ◌++◌, ◌∷◌, [], ℕ, List, IfOk, true, false};
+ghost use Rattle.std.specs.Prelude.{◌≡◌, ◌++◌, ◌∷◌, [], ℕ, List, IfOk};
 ghost use Rattle.homeo_syntax.specs.declared.workload.Refusal.{Refusal};
 ghost use Rattle.homeo_session.specs.Batches.{RefusesHead, IsAnswered};
 ghost use Rattle.homeo_session.specs.Streams.{begun, IsAfter, Decides, IsStopped, IsServed, EndRefuses};

@@ -8,10 +8,10 @@ use Rattle.homeo_meaning.specs.Key.{definitions as meaning_definitions}
 use Rattle.homeo_meaning.specs.Context.{Slot, Context, spot, field_cell, object, slots, fields, bind}
 use Rattle.homeo_meaning.specs.Aborts.{holds_abort, hold_abort}
 use Rattle.homeo_meaning.specs.LForm as form
-use Rattle.homeo_meaning.specs.LForm.{Lifted, Made, AllMade, equal, read, literal_of, visits, lift, lift_cond, as_one}
+use Rattle.homeo_meaning.specs.LForm.{Made, AllMade, equal, literal_of, visits, lift, lift_cond, as_one}
 use Rattle.homeo_size.specs.inner.Key.{definitions}
 use Rattle.homeo_size.specs.inner.Measuring as told
-use Rattle.homeo_size.specs.inner.Measuring.{unless_ended, guard, guard_after, before_turn, in_turn, after, after_all, measured, all_measured, each_after, each_measured, row_set, row_setting, cleared, field_set, field_setting}
+use Rattle.homeo_size.specs.inner.Measuring.{guard, guard_after, before_turn, in_turn, after, after_all, measured, all_measured, row_set, row_setting, cleared, field_set, field_setting}
 use Rattle.homeo_size.specs.inner.Parts.{literal, single, nothing, beside, compared, greater, around, written, empty, valued, writing, chosen, none, with_one, placed}
 use Rattle.homeo_size.specs.inner.Sizing.{Sizes, Setting, literal_in, used_test, sized, tests_sized, visit_sized, lifted, tests_lifted}
 use Rattle.homeo_size.specs.inner.Store.{Store, set_entry, closed, reopened, visited}

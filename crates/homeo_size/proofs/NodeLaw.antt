@@ -11,7 +11,7 @@ use Rattle.homeo_meaning.specs.Schema.{Declared}
 use Rattle.homeo_meaning.specs.Context.{Spot, Slot, Context, spot, cell, field_cell, object, slots, fields, bind, slot_at}
 use Rattle.homeo_meaning.specs.Aborts.{holds_abort, hold_abort}
 use Rattle.homeo_meaning.specs.LForm as form
-use Rattle.homeo_meaning.specs.LForm.{Lifted, Made, AllMade, both, one, in_front, equal, read, fresh, name_of, read_chain, read_slot, literal_of, indexed_by, write_chain, write_at, write_by, visits, counted, pair, Pair, Target, stored, all_within, field_writes, fill_chain, lift, lift_all, lift_test, lift_cond, lift_values}
+use Rattle.homeo_meaning.specs.LForm.{Lifted, Made, both, one, in_front, equal, read, fresh, name_of, read_chain, read_slot, literal_of, indexed_by, write_chain, write_at, write_by, visits, counted, Target, all_within, field_writes, fill_chain, lift, lift_all, lift_test, lift_cond, lift_values}
 use Rattle.homeo_size.specs.inner.Key.{definitions}
 use Rattle.homeo_size.specs.inner.Nodes.{few, index_nodes, visit_nodes, nodes, all_nodes, test_nodes, tests_nodes, slot_nodes, write_nodes, values_nodes, command_nodes, commands_nodes}
 use Rattle.homeo_size.specs.inner.Sizing.{Setting, missing_at, literal_in}

@@ -10,7 +10,7 @@ use Rattle.homeo_meaning.specs.Schema.{Declared}
 use Rattle.homeo_meaning.specs.Context.{Spot, Slot, Context, spot, cell, slot_at}
 use Rattle.homeo_meaning.specs.LowMeaning.{BaseAt, put}
 use Rattle.homeo_meaning.specs.LForm as form
-use Rattle.homeo_meaning.specs.LForm.{Lifted, Pair, pair, one, fresh, read, equal, within, write_to, write_chain, write_at, write_by, Target, stored, lift, lift_values, all_within, field_writes, fill_chain}
+use Rattle.homeo_meaning.specs.LForm.{Lifted, Pair, pair, one, equal, within, write_to, write_chain, write_at, write_by, Target, stored, lift, lift_values, all_within, field_writes, fill_chain}
 use Rattle.homeo_size.specs.inner.Key.{definitions}
 use Rattle.homeo_size.specs.inner.Measuring.{Filled, chain_raised, slot_raised, field_raised, chain_writing, slot_writing, field_writing, values_lifted, fillings, filled_tests, fields_writing, chain_filling, into_sized, fields_filled, slot_filled, chain_filled, inserted, inserting}
 use Rattle.homeo_size.specs.inner.Parts.{literal, nothing, around, greater, written, empty, valued, writing, chosen, none, with_one, placed, within_tests, is_equal, guarded}

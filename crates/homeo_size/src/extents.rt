@@ -1,7 +1,6 @@
 //! The extents of names in tables, with a log of their changes.
 
-ghost use Rattle.std.specs.Prelude.{◌≡◌, ◌≤◌, length, map, IfOk, OnOk};
-ghost use Rattle.homeo_size.specs.inner.Sizing.{name_sized, slot_sized};
+ghost use Rattle.std.specs.Prelude.{◌≡◌, map, IfOk, OnOk};
 ghost use Rattle.homeo_size.specs.inner.Store.{entry_sized, with_entry, kept_in, set_entry, raise_entry, back_to, since, restored, raised, touched, closed, reopened, higher, both_branches};
 ghost use Rattle.homeo_size.specs.inner.Measuring.{guard_after};
 ghost use Rattle.homeo_size.specs.inner.Tables.{sizes_in, store_in};

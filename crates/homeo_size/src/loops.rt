@@ -1,6 +1,6 @@
 //! Loops over the slots of a relation whose bodies are no commands of the text.
 
-ghost use Rattle.std.specs.Prelude.{false, ◌≡◌, pos, map, IfOk, OnOk};
+ghost use Rattle.std.specs.Prelude.{false, ◌≡◌, pos, IfOk, OnOk};
 ghost use Rattle.homeo_syntax.specs.SourceView.{plain_cond, plain_expr};
 ghost use Rattle.homeo_size.specs.inner.Parts.{literal, writing, none};
 ghost use Rattle.homeo_size.specs.inner.Measuring.{cleared, row_set, row_setting, field_set, field_setting, visits};

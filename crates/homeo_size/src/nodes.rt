@@ -1,6 +1,6 @@
 //! How many nodes an L form has at least, told without visiting a slot: so a form that is far too large is known at once.
 
-ghost use Rattle.std.specs.Prelude.{◌≡◌, ◌+◌, ◌*◌, map, option_map};
+ghost use Rattle.std.specs.Prelude.{◌≡◌, ◌+◌, map, option_map};
 ghost use Rattle.homeo_syntax.specs.SourceView.{exprs, tests, commands, plain_expr, plain_test, plain_cond, plain_field, plain_command};
 ghost use Rattle.homeo_size.specs.inner.Nodes.{few, index_nodes, visit_nodes, nodes, all_nodes, test_nodes, tests_nodes, slot_nodes, write_nodes, values_nodes, command_nodes, commands_nodes};
 ghost use Rattle.homeo_context.specs.Slots.{plain_slot, slots_of, IsCounted};

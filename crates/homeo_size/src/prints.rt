@@ -1,6 +1,6 @@
 //! How many print commands the L form of a call has.
 
-ghost use Rattle.std.specs.Prelude.{◌≡◌, ℕ, ℤ, ◌+◌, ◌*◌, List, map, min};
+ghost use Rattle.std.specs.Prelude.{◌≡◌, ℤ, ◌+◌, ◌*◌, List, map, min};
 ghost use Rattle.homeo_syntax.specs.SourceView.{commands, plain_command, plain_transaction};
 ghost use Rattle.homeo_meaning.specs.LForm.{l_form};
 ghost use Rattle.homeo_meaning.specs.LowSizes.{prints_in};

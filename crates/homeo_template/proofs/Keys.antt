@@ -12,7 +12,7 @@ use Rattle.homeo_plan.specs.declared.forms.Linear as forms
 use Rattle.homeo_plan.specs.PlanView.{plain_linear}
 use Rattle.homeo_plan.specs.Linear.{Linear, is_empty}
 use Rattle.homeo_plan.specs.Template as template
-use Rattle.homeo_plan.specs.Template.{clause_of, same_terms, same_clause, with_clause}
+use Rattle.homeo_plan.specs.Template.{clause_of, same_clause, with_clause}
 use Rattle.homeo_follow.proofs.TermTests.{term_test, same-terms}
 use Rattle.homeo_template.specs.declared.key.Key.{Key}
 use Rattle.homeo_template.specs.inner.Keys.{clause_at}

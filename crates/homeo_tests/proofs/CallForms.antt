@@ -1,5 +1,5 @@
 -- The L form of a ground call can be run on the whole database.
-use Rattle.std.proofs.Common.{◌≡◌, ℕ, ◌^◌, ℤ, true, List, [], map, Option, Some, None, refl, sym, ap, ◌∙◌, subst, arith}
+use Rattle.std.proofs.Common.{◌≡◌, ℕ, ◌^◌, ℤ, true, List, [], map, Option, Some, None, refl, sym, ap, ◌∙◌, arith}
 use Rattle.std.specs.Prelude.{slice_get}
 use Rattle.homeo_syntax.specs.Source as s
 use Rattle.homeo_syntax.specs.Low.{Command}

@@ -1,6 +1,6 @@
 //! The token that a text begins with (this project's rule).
 
-ghost use Rattle.std.specs.Prelude.{◌≡◌, ◌<◌, ◌≤◌, ◌^◌, ℕ, length, option_map, EachIndex, IsTrue, slice_index, pos, bytes_eq, ◌∷◌, []};
+ghost use Rattle.std.specs.Prelude.{◌≡◌, ◌<◌, ◌≤◌, length, option_map, EachIndex, IsTrue, slice_index, pos, bytes_eq, ◌∷◌, []};
 ghost use Rattle.std.specs.List.{prefix_len};
 ghost use Rattle.homeo_syntax.specs.Lexemes as spec;
 ghost use Rattle.homeo_syntax.specs.Marks.{mark_text};

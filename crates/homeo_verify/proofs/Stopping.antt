@@ -1,6 +1,6 @@
 -- Where following stops: at the first of more faults, or at one behind none.
 use Rattle.std.proofs.Common.{◌≡◌, List, [], ◌++◌, Result, Ok, Err, IsErrAnd, sym, ap, ◌∙◌, subst, append-nil}
-use Rattle.std.specs.Prelude.{OnOk, IfOk}
+use Rattle.std.specs.Prelude.{OnOk}
 use Rattle.homeo_certificate.specs.declared.fault.Fault.{Fault}
 use Rattle.homeo_verify.specs.declared.stop.Stop.{Stop}
 use Rattle.homeo_verify.specs.declared.stop.Stop.TheVariants as stop
@@ -38,8 +38,3 @@ on_ok_as (Err e) f p = tt
 
 pub stops_as : (fs gs : List Fault) (e : Stop) → fs ≡ gs → StopsAt fs e → StopsAt gs e
 stops_as fs gs e q h = subst (λ l. StopsAt l e) q h
-
--- an answer with what follows of it
-pub if_ok_as : {A E : Type 0} {P Q : A → Type 0} (r : Result A E) → ((a : A) → P a → Q a) → IfOk r P → IfOk r Q
-if_ok_as (Ok a) f p = f a p
-if_ok_as (Err e) f p = tt

@@ -150,14 +150,6 @@ module _ (work : Workload) (nodes : List Node) (packets : List Packet) (wire : I
   pub wire_same : (nodes' : List Node) (packets' : List Packet) → All (IsNode work) nodes' → world_of nodes' packets' ≡ x → IsWire work nodes' packets'
   wire_same nodes' packets' each is = record { accepted = wire.accepted; each = each; events = wire.events; reached = is ∙ wire.reached }
 
--- by the answer
-pub wire_by :
-    (work : Workload) (nodes : List Node) (packets : List Packet) → IsWire work nodes packets → (e : Event) (nodes' : List Node) (packets' : List Packet) {T E : Type 0} (r : Result T E) →
-    All (IsNode work) nodes' → OnOk r (world_of nodes' packets' ≡ (n.happens (plain_workload work) (world_of nodes packets) e).world) →
-    OnErr r (world_of nodes' packets' ≡ world_of nodes packets) → IsWire work nodes' packets'
-wire_by work nodes packets wire e nodes' packets' (Ok t) each ok err = wire_after work nodes packets wire e nodes' packets' each ok
-wire_by work nodes packets wire e nodes' packets' (Err f) each ok err = wire_same work nodes packets wire nodes' packets' each err
-
 -- ---- a place
 -- the node that stands at it
 pub record Stands (work : Workload) (nodes : List Node) (i : ℕ) (p : Node) : Type 0 where

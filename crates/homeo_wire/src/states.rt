@@ -1,8 +1,6 @@
 //! The states that a node keeps.
 
-ghost use Rattle.std.specs.Prelude.{◌≡◌, pos, ◌+ℤ◌, ◌<◌, true, Some, None, map, length, replicate, slice_index_or, slice_set, is_some, cond, All, IfOk, FitsSigned};
-ghost use Rattle.std.specs.Int.{w64};
-ghost use Rattle.homeo_round.specs.PlusDeltas.{plus_deltas};
+ghost use Rattle.std.specs.Prelude.{◌≡◌, ◌<◌, true, Some, None, map, length, replicate, slice_set, is_some, cond, IfOk};
 ghost use Rattle.homeo_wire.specs.Nodes.{has_state, all_of};
 ghost use Rattle.homeo_wire.specs.WireView.{plain_state};
 ghost use Rattle.homeo_wire.specs.inner.Ready.{FoldsFit, IsFold};

@@ -1,6 +1,6 @@
 //! The numbers of a command line.
 
-ghost use Rattle.std.specs.Prelude.{◌≡◌, ◌↔◌, ◌<◌, ◌≤◌, ◌^◌, ℕ, length, true, IfSome, IfNone, Some};
+ghost use Rattle.std.specs.Prelude.{◌≡◌, ◌↔◌, ◌<◌, ◌≤◌, ◌^◌, ℕ, true, IfSome, IfNone, Some};
 ghost use Rattle.std.specs.List.{list_all};
 ghost use Rattle.homeo_syntax.specs.Lexemes.{is_digit, number_value};
 ghost use Rattle.homeo_words.specs.Numeral.{IsNumeral};

@@ -1,13 +1,13 @@
 //! The rules of clients and their calls.
 
-ghost use Rattle.std.specs.Prelude.{◌≡◌, map, length, ◌==◌, not};
-ghost use Rattle.homeo_syntax.specs.SourceView.{plain_transaction, plain_call, plain_client};
-ghost use Rattle.homeo_meaning.specs.CallRules.{argument_faults, call_faults, client_faults};
+ghost use Rattle.std.specs.Prelude.{◌≡◌, length, ◌==◌, not};
+ghost use Rattle.homeo_syntax.specs.SourceView.{plain_call};
+ghost use Rattle.homeo_meaning.specs.CallRules.{argument_faults};
 ghost use Rattle.homeo_rules.specs.inner.Deciding.{keep_all};
 ghost use Rattle.homeo_meaning.specs.NameRules.{when, fault};
 ghost use Rattle.homeo_meaning.specs.declared.rules.Phase.TheVariants.{Arity};
 ghost use Rattle.homeo_rules.specs.inner.Callers.{params_at, call_faults_of, client_faults_of};
-ghost use Rattle.homeo_rules.specs.inner.Listwise.{along_all, along_arguments};
+ghost use Rattle.homeo_rules.specs.inner.Listwise.{along_all};
 ghost use Rattle.homeo_rules.specs.inner.Scopes.{scope_in};
 
 use crate::deciding::at_name;

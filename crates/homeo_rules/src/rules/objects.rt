@@ -2,7 +2,7 @@
 
 ghost use Rattle.std.specs.Prelude.{◌≡◌, ◌<◌, ◌^◌};
 ghost use Rattle.homeo_meaning.specs.NumberRules.{object_making};
-ghost use Rattle.homeo_rules.specs.inner.Counting.{Counted as Plain, counted, count_all, making_of};
+ghost use Rattle.homeo_rules.specs.inner.Counting.{counted, count_all, making_of};
 
 use crate::deciding::at_name;
 use homeo_meaning::{Fault, Phase};

@@ -1,6 +1,6 @@
 //! The schedule names each client as often as it has calls.
 
-ghost use Rattle.std.specs.Prelude.{◌≡◌, ◌<◌, ◌+◌, ◌^◌, ◌==◌, ◌&&◌, replicate, slice_index, length, map, IfOk};
+ghost use Rattle.std.specs.Prelude.{◌≡◌, ◌<◌, ◌+◌, ◌^◌, ◌==◌, ◌&&◌, replicate, slice_index, map, IfOk};
 ghost use Rattle.homeo_syntax.specs.WellFormed.{InSchedule, IsBelow};
 ghost use Rattle.homeo_syntax.specs.SourceView.{plain_client, plain_schedule};
 ghost use Rattle.homeo_meaning.specs.CallRules.{end_fault, needs_order, schedule_faults};

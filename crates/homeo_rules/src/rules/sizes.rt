@@ -1,6 +1,6 @@
 //! How large the L forms of the ground calls are, how heavy, and their tables.
 
-ghost use Rattle.std.specs.Prelude.{◌≡◌, ◌+◌, ◌*◌, ◌||◌, [], not, map, min, nat_le, nat_lt, IfOk, OnOk};
+ghost use Rattle.std.specs.Prelude.{◌≡◌, ◌+◌, ◌*◌, ◌||◌, not, map, min, nat_le, nat_lt, IfOk, OnOk};
 ghost use Rattle.std.specs.List.{flat_map};
 ghost use Rattle.homeo_rules.specs.inner.Deciding.{keep_all};
 ghost use Rattle.homeo_meaning.specs.NameRules.{when, fault};
@@ -9,7 +9,7 @@ ghost use Rattle.homeo_meaning.specs.SizeRules.{extent_of, too_large, heavy_call
 ghost use Rattle.homeo_meaning.specs.declared.rules.Phase.TheVariants.{Size, Weight, Rows};
 ghost use Rattle.homeo_ground.specs.Sited.{sited};
 ghost use Rattle.homeo_rules.specs.inner.Bodies.{AreBodies};
-ghost use Rattle.homeo_rules.specs.inner.Sizes.{IsSetUp, workload_of, call_of, told_size, IsTold, AreTold, AreMeasured, is_too_large, known};
+ghost use Rattle.homeo_rules.specs.inner.Sizes.{IsSetUp, workload_of, call_of, IsTold, AreTold, AreMeasured, is_too_large, known};
 
 use crate::deciding::at_name;
 use crate::rules::bodies::{Bodies, Measuring};

@@ -1,4 +1,4 @@
-use Rattle.std.proofs.Common.{◌≡◌, ◌∙◌, ap, map}
+use Rattle.std.proofs.Common.{◌∙◌, ap, map}
 use Rattle.homeo_ground.specs.Sited.{sited}
 use Rattle.homeo_rules.proofs.Joining.{calls-are, grounds-are}
 use Rattle.homeo_rules.proofs.decision.in_scope.Goals as goal

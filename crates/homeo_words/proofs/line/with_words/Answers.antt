@@ -1,4 +1,4 @@
-use Rattle.std.proofs.Common.{rules, ap, sym, ◌≡◌, ◌+◌, ◌∙◌, drop}
+use Rattle.std.proofs.Common.{ap, sym, ◌+◌, ◌∙◌, drop}
 use Rattle.clap.specs.Words.{App, app_of, with_subcommand}
 use Rattle.homeo_words.specs.inner.App.{with_words}
 use Rattle.homeo_words.specs.inner.Said.{texts}
