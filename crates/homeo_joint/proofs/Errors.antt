@@ -14,6 +14,13 @@ passed_on (Err x) e h = ap Err h
 pub one_error : {T : Type 0} (r : Result T JointError) (e f : JointError) → r ≡ Err e → r ≡ Err f → e ≡ f
 one_error r e f h k = cc
 
+-- the error of one more table is passed on
+pub step_passed_on :
+    {T : Type 0} (r : Result T JointError) (e : JointError) (i q t p : ℕ) → IsErrAnd r (λ x. x ≡ e) → e ≡ TooMany i q →
+    r ≡ Err (TooMany t p) → (i ≡ t) × (q ≡ p)
+step_passed_on (Ok x) e i q t p h is f = absurd h
+step_passed_on (Err x) e i q t p h is f = (cc, cc)
+
 -- the whole product exceeds the limit where the error says so
 pub over_err :
     {T : Type 0} (limit : ℕ) (ns : List ℕ) → All (λ n. 1 ≤ n) ns → (r : Result T JointError) → IsErrAnd r IsTooMany →

@@ -1,6 +1,6 @@
 //! How many rows a joint table has.
 
-ghost use Rattle.std.specs.Prelude.{◌≡◌, ℕ, ◌^◌, ◌<◌, ◌≤◌, length, vec_len, IfErr, IfOk};
+ghost use Rattle.std.specs.Prelude.{◌≡◌, ℕ, ◌*◌, ◌^◌, ◌<◌, ◌≤◌, length, vec_len, IfErr, IfOk, IsErr};
 ghost use Rattle.std.specs.List.{All};
 ghost use Rattle.homeo_joint.specs.Counts.{row_counts, product_of, row_limit, IsFirstOver};
 ghost use Rattle.homeo_joint.specs.TooMany.{IsTooMany};
@@ -48,13 +48,7 @@ pub(crate) fn joint_size(tables: &[Vec<Row>]) -> Result<u64, JointError>
 {
     let mut product = 1;
     for (table, rows) in tables.iter().enumerate() {
-        product *= rows.len() as u64;
-        if product > MOST_ROWS {
-            return Err(JointError::TooMany {
-                table: table as u32,
-                product,
-            });
-        }
+        product = more_rows(product, table, rows.len() as u64)?;
     }
     Ok(product)
 }
@@ -74,13 +68,31 @@ pub(crate) fn product_within(counts: &[u64]) -> Result<u64, JointError>
 {
     let mut product = 1;
     for (table, rows) in counts.iter().enumerate() {
-        product *= *rows;
-        if product > MOST_ROWS {
-            return Err(JointError::TooMany {
-                table: table as u32,
-                product,
-            });
-        }
+        product = more_rows(product, table, *rows)?;
+    }
+    Ok(product)
+}
+
+/// How many choices there are with the rows of one more table, the one with this number.
+///
+/// # Errors
+///
+/// `TooMany` where they exceed `MOST_ROWS`.
+fn more_rows(product: u64, table: usize, rows: u64) -> Result<u64, JointError>
+    requires within { product ≤ row_limit }
+    requires few { table < 2 ^ 32 }
+    requires counted { rows < 2 ^ 32 }
+    ensures product { IfOk result (λ n. n ≡ product * rows) }
+    ensures within { IfOk result (λ n. n ≤ row_limit) }
+    ensures error { IfErr result (λ e. e ≡ JointError.TooMany table (product * rows)) }
+    ensures over { IsErr result → row_limit < product * rows }
+{
+    let product = product * rows;
+    if product > MOST_ROWS {
+        return Err(JointError::TooMany {
+            table: table as u32,
+            product,
+        });
     }
     Ok(product)
 }
