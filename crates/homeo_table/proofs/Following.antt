@@ -1,5 +1,5 @@
 -- One more command in front of those that are left, and one more row.
-use Rattle.std.proofs.Common.{◌≡◌, ◌+◌, ◌<◌, List, [], ◌∷◌, ◌++◌, map, reverse, length, Bor, refl, sym, ap, ap₂, ◌∙◌, arith, lit<, append_assoc, append-nil}
+use Rattle.std.proofs.Common.{◌≡◌, ◌+◌, ◌<◌, List, [], ◌∷◌, ◌++◌, map, reverse, Bor, refl, sym, ap, ap₂, ◌∙◌, arith, lit<, append_assoc, append-nil}
 use Rattle.std.proofs.lemmas.List.{reverse-append, map-append, map_push}
 use Rattle.homeo_syntax.specs.Key.{definitions as syntax_definitions}
 use Rattle.homeo_syntax.specs.declared.low.LCommand.{LCommand}
@@ -10,8 +10,8 @@ use Rattle.homeo_syntax.specs.LowView.{low_commands, plain_lcommand}
 use Rattle.homeo_meaning.specs.LowMeaning.{Location, TempAt, location_of}
 use Rattle.homeo_plan.specs.Key.{definitions as plan_definitions}
 use Rattle.homeo_plan.specs.Table.{Row, set_before, test_before, otherwise, before, all_before, last_row}
-use Rattle.homeo_table.specs.Key.{definitions}
-use Rattle.homeo_table.specs.Partings.{left_before}
+use Rattle.homeo_table.specs.inner.Key.{definitions}
+use Rattle.homeo_table.specs.inner.Partings.{left_before}
 use Rattle.homeo_table.specs.inner.Makings.{command_before}
 use Rattle.homeo_table.specs.inner.Branches.{size, size_all, left_size}
 
@@ -131,15 +131,3 @@ rows-both m k b c d rows all held failed others h e f g =
 pub pushed-left : (cs ds : List (Bor LCommand)) (c : Bor LCommand) (k : Command) → ds ≡ cs ++ c ∷ [] → plain_lcommand c.now ≡ k → map (λ c. plain_lcommand c.now) ds ≡ map (λ c. plain_lcommand c.now) cs ++ k ∷ []
 pushed-left cs ds c k h is =
     ap (map (λ c. plain_lcommand c.now)) h ∙ map_push (λ c. plain_lcommand c.now) cs c ∙ ap (λ k. map (λ c. plain_lcommand c.now) cs ++ k ∷ []) is
-
-pub next-row :
-    {X : Type 0} (f : X → Row) (xs ys : List X) (x : X) (rows all before : List Row) → ys ≡ xs ++ x ∷ [] → f x ∷ rows ≡ before → map f xs ++ before ≡ all →
-    map f ys ++ rows ≡ all
-next-row f xs ys x rows all before e h k =
-    ap (λ ys. map f ys ++ rows) e ∙ ap (λ l. l ++ rows) (map_push f xs x) ∙ append_assoc (map f xs) (f x ∷ []) rows ∙ ap (λ l. map f xs ++ l) h ∙ k
-
-pub last-rows : (rows rest all : List Row) → rest ≡ [] → rows ++ rest ≡ all → rows ≡ all
-last-rows rows rest all h e = sym (append-nil rows) ∙ ap (λ rest. rows ++ rest) (sym h) ∙ e
-
-pub fewer-rows : (r : Row) (rows before : List Row) → r ∷ rows ≡ before → length rows < length before
-fewer-rows r rows before h = omega (arith, ap length h)

@@ -2,6 +2,7 @@ pub mod Substituted
 pub mod Makings
 pub mod Following
 pub mod Parted
+pub mod Cursors
 pub mod Held
 pub mod Fitting
 pub mod WalkSteps

@@ -9,8 +9,8 @@ use Rattle.homeo_syntax.specs.LowView.{low_tests, low_commands, plain_ltest, pla
 use Rattle.homeo_meaning.specs.LowMeaning.{Location, put}
 use Rattle.homeo_plan.specs.Key.{definitions as plan_definitions}
 use Rattle.homeo_plan.specs.Table.{Row, both, set_before, test_before, otherwise, clear_row, last_row}
-use Rattle.homeo_table.specs.Key.{definitions}
-use Rattle.homeo_table.specs.Partings.{and_then, row_with}
+use Rattle.homeo_table.specs.inner.Key.{definitions}
+use Rattle.homeo_table.specs.inner.Partings.{and_then, row_with}
 use Rattle.homeo_table.specs.inner.Makings.{command_before}
 use Rattle.homeo_substitution.specs.Key.{definitions as substitution_definitions}
 use Rattle.homeo_substitution.specs.Substitution.{substituted, substituted_test, substituted_cond}

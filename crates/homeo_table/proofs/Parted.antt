@@ -10,8 +10,8 @@ use Rattle.homeo_substitution.specs.Bindings.{bound}
 use Rattle.homeo_table.specs.declared.making.Making.{Making}
 use Rattle.homeo_table.specs.declared.making.Mark.{Mark}
 use Rattle.homeo_table.specs.declared.branches.Parting.{Parting}
-use Rattle.homeo_table.specs.Key.{definitions}
-use Rattle.homeo_table.specs.Partings.{tests_of, commands_of, row_with, row_from, left_before, failed_before, rows_from, rows_of_all}
+use Rattle.homeo_table.specs.inner.Key.{definitions}
+use Rattle.homeo_table.specs.inner.Partings.{tests_of, commands_of, row_with, row_from, left_before, failed_before, rows_from, rows_of_all}
 use Rattle.homeo_table.specs.inner.Branches.{rows_behind, Nested, AreNested}
 use Rattle.homeo_table.specs.inner.Makings.{Begins}
 use Rattle.homeo_table.proofs.Makings.{begins-same, row-new}
@@ -150,9 +150,6 @@ unfolding definitions
 first-come ts cs ps p rows e h = ap (λ ps. rows_of_all ts cs (reverse ps)) e ∙ append-nil (rows_from ts cs p) ∙ h ts cs
 
 -- the next branch
-pub next-nested : (t c : ℕ) (ps qs : List Parting) (p : Parting) → ps ≡ qs ++ p ∷ [] → Nested t c (reverse ps) → Nested t c (p ∷ reverse qs)
-next-nested t c ps qs p e n = subst (Nested t c) (pushed qs ps p e) n
-
 pub next-come :
     (ts : List Test) (cs : List Command) (ps qs : List Parting) (p : Parting) → ps ≡ qs ++ p ∷ [] →
     rows_of_all ts cs (reverse ps) ≡ rows_of_all ts cs (p ∷ reverse qs)

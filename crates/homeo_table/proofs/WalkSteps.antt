@@ -14,7 +14,7 @@ use Rattle.homeo_plan.specs.Key.{definitions as plan_definitions}
 use Rattle.homeo_plan.specs.Table.{Row, set_before, test_before, otherwise, clear_row, last_row, walk, walk_before, walk_all_before, HasNoTemps}
 use Rattle.homeo_split.specs.Key.{definitions as split_definitions}
 use Rattle.homeo_split.specs.CanExec.{run_limit, expr_fits, cond_fits, can_exec, can_exec_all}
-use Rattle.homeo_table.specs.Key.{definitions}
+use Rattle.homeo_table.specs.inner.Key.{definitions}
 use Rattle.homeo_table.specs.inner.Branches.{size, size_all}
 use Rattle.homeo_table.specs.inner.Makings.{command_before}
 use Rattle.homeo_substitution.specs.Substitution.{substituted, substituted_cond}

@@ -1,4 +1,2 @@
-pub mod Key
-pub mod Partings
 pub mod Rows
 pub mod inner

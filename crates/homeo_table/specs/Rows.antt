@@ -1,13 +1,19 @@
--- The rows of a command's table that a cursor has still to reach, and the row that it reached last.
-use Rattle.std.specs.Prelude.{List, reverse}
-use Rattle.homeo_syntax.specs.LowView.{low_tests, low_commands}
-use Rattle.homeo_plan.specs.Table.{Row}
-use Rattle.homeo_table.specs.declared.rows.Rows.{Rows}
-use Rattle.homeo_table.specs.Partings.{tests_of, commands_of, rows_of_all}
+-- What contracts see of a cursor over the rows of a command's table (this project's rule).
+use Rattle.std.specs.Prelude.{ℕ, ◌-◌, Bool, List, slice_index_or}
+use Rattle.homeo_syntax.specs.declared.low.LCommand.{LCommand}
+use Rattle.homeo_syntax.specs.LowView.{plain_lcommand}
+use Rattle.homeo_plan.specs.Table.{Row, last_row, table}
 
--- the rows of the branches that parted, the last one first
-unfoldable pub to_come : Rows → List Row
-to_come r = rows_of_all (tests_of r.branch.row) (commands_of r.branch.row) (reverse r.partings.items)
+-- the command, how many rows of its table were passed, and whether the cursor stands on the last of these
+pub record RowsValue : Type 0 where
+  pub command : LCommand
+  pub passed : ℕ
+  pub there : Bool
 
-unfoldable pub reached : Rows → Row
-reached r = record { formula = low_tests (tests_of r.branch.row); residual = low_commands (commands_of r.branch.row) }
+-- all rows of the table
+abbrev pub all_rows : RowsValue → List Row
+all_rows r = table (plain_lcommand r.command)
+
+-- the row that the cursor stands on
+abbrev pub reached : RowsValue → Row
+reached r = slice_index_or (all_rows r) (r.passed - 1) last_row

@@ -4,7 +4,7 @@ ghost use Rattle.std.specs.Prelude.{◌≡◌, ◌+◌, ◌<◌, ◌≤◌, [], 
 ghost use Rattle.homeo_syntax.specs.Low.{Test, Command};
 ghost use Rattle.homeo_syntax.specs.LowView.{plain_lcond, plain_lcommand};
 ghost use Rattle.homeo_plan.specs.Table.{last_row, test_before, otherwise, before, table};
-ghost use Rattle.homeo_table.specs.Partings.{tests_of, commands_of, left_before, rows_from, rows_of_all};
+ghost use Rattle.homeo_table.specs.inner.Partings.{tests_of, commands_of, left_before, rows_from, rows_of_all};
 ghost use Rattle.homeo_table.specs.inner.Branches.{left_of, rows_of, rows_behind, size, left_size, Nested, AreNested};
 ghost use Rattle.homeo_table.specs.inner.Makings.{completed};
 

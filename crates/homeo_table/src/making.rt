@@ -8,8 +8,8 @@ ghost use Rattle.homeo_plan.specs.Table.{last_row, set_before, test_before, othe
 ghost use Rattle.homeo_split.specs.CanExec.{run_limit, cond_fits};
 ghost use Rattle.homeo_split.specs.States.{state_of};
 ghost use Rattle.homeo_substitution.specs.Bindings.{bound};
-ghost use Rattle.homeo_table.specs.Partings.{tests_of, commands_of, row_from};
-ghost use Rattle.homeo_table.specs.inner.Makings.{completed, command_before, Begins};
+ghost use Rattle.homeo_table.specs.inner.Partings.{tests_of, commands_of, row_from};
+ghost use Rattle.homeo_table.specs.inner.Makings.{made_row, completed, command_before, Begins};
 ghost use Rattle.homeo_split.specs.Places.{plain_place};
 ghost use Rattle.homeo_substitution.specs.Substitution.{substituted, substituted_test, substituted_cond};
 
@@ -184,7 +184,7 @@ impl<'a> Making<'a> {
 
     /// A copy of the row, where the branch ends.
     pub(crate) fn copied_row(&self, alloc: Global) -> Result<Row, Memory>
-        ensures { IfOk result (λ r. plain_row r ≡ record { formula = low_tests (tests_of self.now); residual = low_commands (commands_of self.now) }) }
+        ensures { IfOk result (λ r. plain_row r ≡ made_row self.now) }
     {
         let tests = copied_tests(alloc, self.tests.as_slice())?;
         let commands = copied_commands(alloc, self.commands.as_slice())?;

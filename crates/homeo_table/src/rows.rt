@@ -1,11 +1,10 @@
 //! The rows of a command's table, one after another.
 
-ghost use Rattle.homeo_table.specs.inner.Branches.{AreNested, Nested-prop};
-
 use crate::branches::{Branch, Parting};
 use homeo_plan::Row;
 use homeo_syntax::{LCommand, LTest, Memory};
 use std::alloc::Global;
+use std::marker::Model;
 
 /// A cursor over the rows of a command's symbolic table (Roy et al., SIGMOD 2015), in their order: the rows that are still to
 /// come, and the row that was reached last.
@@ -14,18 +13,41 @@ use std::alloc::Global;
 /// for each `if` on its way, of the places that are set there and the commands that are left.
 #[derive(Drop)]
 pub struct Rows<'a> {
+    command: &'a LCommand,
     branch: Branch<'a>,
     /// The branches that are still to be followed, the next one last.
     partings: Vec<Parting<'a>>,
-    ghost nested: { AreNested branch.row partings.items } by { Nested-prop _ _ _ },
+    /// Whether a row was reached.
+    there: bool,
+}
+
+impl<'a> Model for Rows<'a> {
+    ghost use Rattle.std.specs.Coded.{codes};
+    ghost use Rattle.homeo_syntax.specs.contracts.low.LCommand.{the_row};
+    ghost use Rattle.homeo_syntax.specs.LowView.{plain_lcommand};
+    ghost use Rattle.homeo_plan.specs.Table.{table};
+    ghost use Rattle.homeo_table.specs.Rows.{RowsValue};
+    ghost use Rattle.homeo_table.specs.inner.Branches.{rows_behind};
+    ghost use Rattle.homeo_table.specs.inner.Cursors.{passed, IsCursor};
+
+    ghost Value = { RowsValue };
+
+    ghost coded = { Prim.hlevel (codes, the_row.coded) };
+
+    ghost view = { λ r. record {
+      command = r.command.now;
+      passed = passed (table (plain_lcommand r.command.now)) (rows_behind r.branch.row r.partings.items);
+      there = r.there;
+    } };
+
+    ghost invariant = { λ r. IsCursor (table (plain_lcommand r.command.now)) r.branch.row r.partings.items r.there };
 }
 
 impl<'a> Rows<'a> {
-    ghost use Rattle.std.specs.Prelude.{◌≡◌, true, false, [], ◌∷◌, map, IfOk};
+    ghost use Rattle.std.specs.Prelude.{◌≡◌, ◌+◌, ◌<◌, true, false, map, length, IfOk, OnErr};
     ghost use Rattle.homeo_syntax.specs.LowView.{low_tests, low_commands, plain_ltest, plain_lcommand};
     ghost use Rattle.homeo_plan.specs.PlanView.{plain_row};
-    ghost use Rattle.homeo_plan.specs.Table.{table};
-    ghost use Rattle.homeo_table.specs.Rows.{to_come, reached};
+    ghost use Rattle.homeo_table.specs.Rows.{all_rows, reached};
 
     /// Stands before the first row.
     ///
@@ -33,13 +55,16 @@ impl<'a> Rows<'a> {
     ///
     /// `Memory` when out of memory.
     pub fn of(alloc: Global, c: &'a LCommand) -> Result<Rows<'a>, Memory>
-        ensures { IfOk result (λ rows. to_come rows ≡ table (plain_lcommand c.now)) }
+        ensures command { IfOk result (λ rows. rows.command ≡ c.now) }
+        ensures first { IfOk result (λ rows. rows.passed ≡ 0) }
     {
         let mut partings = Vec::new(alloc);
         partings.push(Parting::first(alloc, c)?)?;
         Ok(Rows {
+            command: c,
             branch: Branch::new(alloc),
             partings,
+            there: false,
         })
     }
 
@@ -50,15 +75,23 @@ impl<'a> Rows<'a> {
     ///
     /// `Memory` when out of memory. Then no rows are to come.
     pub fn next(&mut self, alloc: Global) -> Result<bool, Memory>
-        ensures row { IfOk result (λ there. there ≡ true → to_come self.old ≡ reached self.new ∷ to_come self.new) }
-        ensures none { IfOk result (λ there. there ≡ false → to_come self.old ≡ []) }
-        ensures end { IfOk result (λ there. there ≡ false → to_come self.new ≡ []) }
+        ensures command { self.new.command ≡ self.old.command }
+        ensures there { IfOk result (λ there. self.new.there ≡ there) }
+        ensures row { IfOk result (λ there. there ≡ true → self.new.passed ≡ self.old.passed + 1) }
+        ensures some { IfOk result (λ there. there ≡ true → self.old.passed < length (all_rows self.old)) }
+        ensures none { IfOk result (λ there. there ≡ false → self.old.passed ≡ length (all_rows self.old)) }
+        ensures end { self.new.there ≡ false → self.new.passed ≡ length (all_rows self.new) }
+        ensures memory { OnErr result (self.new.there ≡ false) }
     {
+        self.there = false;
         let Some(parting) = self.partings.pop() else {
             return Ok(false);
         };
         match self.branch.go_on(alloc, parting, &mut self.partings) {
-            Ok(()) => Ok(true),
+            Ok(()) => {
+                self.there = true;
+                Ok(true)
+            }
             Err(Memory) => {
                 // a branch that wasn't followed to its end may have fewer tests than those behind it share
                 self.partings.clear();
@@ -69,6 +102,7 @@ impl<'a> Rows<'a> {
 
     /// The tests of the formula of the row that was reached last.
     pub fn formula(&self) -> &[LTest]
+        requires there { self.now.there ≡ true }
         ensures { low_tests (map plain_ltest result.now) ≡ (reached self.now).formula }
     {
         self.branch.row.tests()
@@ -76,6 +110,7 @@ impl<'a> Rows<'a> {
 
     /// The commands of its residual.
     pub fn residual(&self) -> &[&'a LCommand]
+        requires there { self.now.there ≡ true }
         ensures { low_commands (map (λ c. plain_lcommand c.now) result.now) ≡ (reached self.now).residual }
     {
         self.branch.row.commands()
@@ -83,6 +118,7 @@ impl<'a> Rows<'a> {
 
     /// A copy of the row that was reached last.
     pub(crate) fn row(&self, alloc: Global) -> Result<Row, Memory>
+        requires there { self.now.there ≡ true }
         ensures { IfOk result (λ r. plain_row r ≡ reached self.now) }
     {
         self.branch.row.copied_row(alloc)

@@ -1,14 +1,13 @@
 -- The rows that branches have still to give.
 use Rattle.std.specs.Prelude.{ℕ, ◌+◌, ◌≤◌, List, [], ◌∷◌, map, reverse, length, ⊤}
-use Rattle.std.specs.Coded.{×_prop, Unit-prop, le_prop}
 use Rattle.homeo_syntax.specs.Low.{Command, Commands, Skip, Assign, Write, Print, Seq, If, NoCommand, MoreCommand}
 use Rattle.homeo_syntax.specs.LowView.{plain_lcommand}
 use Rattle.homeo_plan.specs.Table.{Row, last_row}
 use Rattle.homeo_table.specs.declared.making.Making.{Making}
 use Rattle.homeo_table.specs.declared.branches.Branch.{Branch}
 use Rattle.homeo_table.specs.declared.branches.Parting.{Parting}
-use Rattle.homeo_table.specs.Key.{definitions}
-use Rattle.homeo_table.specs.Partings.{tests_of, commands_of, left_before, rows_of_all}
+use Rattle.homeo_table.specs.inner.Key.{definitions}
+use Rattle.homeo_table.specs.inner.Partings.{tests_of, commands_of, left_before, rows_of_all}
 use Rattle.homeo_table.specs.inner.Makings.{completed}
 
 -- the commands that are left, from the last to the first
@@ -27,13 +26,6 @@ rows_behind m ps = rows_of_all (tests_of m) (commands_of m) (reverse ps)
 abbrev pub Nested : ℕ → ℕ → List Parting → Type 0
 Nested t c [] = ⊤
 Nested t c (p ∷ ps) = (p.mark.tests ≤ t) × ((p.mark.commands ≤ c) × Nested p.mark.tests p.mark.commands ps)
-
-pub Nested-prop : (t c : ℕ) (ps : List Parting) → IsProp (Nested t c ps)
-Nested-prop t c [] = Unit-prop
-Nested-prop t c (p ∷ ps) =
-    let tests : IsProp (p.mark.tests ≤ t) = le_prop in
-    let commands : IsProp (p.mark.commands ≤ c) = le_prop in
-    ×_prop tests (×_prop commands (Nested-prop p.mark.tests p.mark.commands ps))
 
 -- so are those of partings, below what stands in a row in the making
 abbrev pub AreNested : Making → List Parting → Type 0

@@ -1,10 +1,15 @@
 -- What a row in the making stands for.
 use Rattle.std.specs.Prelude.{◌≡◌, length, take}
 use Rattle.homeo_syntax.specs.Low.{Command, MoreCommand}
+use Rattle.homeo_syntax.specs.LowView.{low_tests, low_commands}
 use Rattle.homeo_plan.specs.Table.{Row}
 use Rattle.homeo_substitution.specs.Bindings.{bound}
 use Rattle.homeo_table.specs.declared.making.Making.{Making}
-use Rattle.homeo_table.specs.Partings.{tests_of, commands_of, row_with}
+use Rattle.homeo_table.specs.inner.Partings.{tests_of, commands_of, row_with}
+
+-- the row that its tests and commands make
+abbrev pub made_row : Making → Row
+made_row m = record { formula = low_tests (tests_of m); residual = low_commands (commands_of m) }
 
 -- the whole row, where that of the commands behind is the given one
 unfoldable pub completed : Making → Row → Row

@@ -1,6 +1,6 @@
 -- What stands before the mark, and then the condition that failed.
 use Rattle.std.proofs.lemmas.Result.{on_ok_weaker}
-use Rattle.homeo_table.specs.Partings.{tests_of, commands_of, rows_from}
+use Rattle.homeo_table.specs.inner.Partings.{tests_of, commands_of, rows_from}
 use Rattle.homeo_table.specs.inner.Branches.{left_of, rows_of}
 use Rattle.homeo_table.proofs.Makings.{begins-same}
 use Rattle.homeo_table.proofs.Parted.{failed-rows, unasked-rows, back-front}

@@ -1,7 +1,7 @@
 -- What is below the mark stays as it was.
 use Rattle.std.proofs.Common.{◌++◌, reverse, ap, ◌∙◌}
 use Rattle.std.proofs.lemmas.Result.{on_ok_weaker}
-use Rattle.homeo_table.specs.Partings.{tests_of, commands_of, rows_of_all}
+use Rattle.homeo_table.specs.inner.Partings.{tests_of, commands_of, rows_of_all}
 use Rattle.homeo_table.proofs.Parted.{back-nested, back-rows}
 use Rattle.homeo_table.proofs.branches.Branch.go_on.Goals as goal
 

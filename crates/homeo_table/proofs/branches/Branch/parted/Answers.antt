@@ -2,7 +2,7 @@
 use Rattle.std.proofs.Common.{◌∷◌, [], ◌++◌, map, refl, ap, ◌∙◌}
 use Rattle.homeo_syntax.specs.LowView.{plain_lcond, plain_lcommand}
 use Rattle.homeo_plan.specs.Table.{last_row, test_before, otherwise}
-use Rattle.homeo_table.specs.Partings.{rows_from}
+use Rattle.homeo_table.specs.inner.Partings.{rows_from}
 use Rattle.homeo_table.specs.inner.Branches.{left_of}
 use Rattle.homeo_table.specs.inner.Makings.{completed}
 use Rattle.homeo_table.proofs.Following.{pushed-left}

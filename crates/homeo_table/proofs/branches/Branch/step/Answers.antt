@@ -4,7 +4,7 @@ use Rattle.std.proofs.lemmas.Result.{on_ok_weaker}
 use Rattle.homeo_syntax.specs.LowView.{plain_lexpr, plain_lcond, plain_lcommand}
 use Rattle.homeo_syntax.proofs.LowViews.{low_Skip, low_Assign, low_Write, low_Print, low_Seq, low_If}
 use Rattle.homeo_plan.specs.Table.{last_row, set_before, test_before, otherwise, before}
-use Rattle.homeo_table.specs.Partings.{left_before}
+use Rattle.homeo_table.specs.inner.Partings.{left_before}
 use Rattle.homeo_table.specs.inner.Branches.{left_of, rows_of, rows_behind}
 use Rattle.homeo_table.specs.inner.Makings.{completed, command_before}
 use Rattle.homeo_split.specs.Places.{plain_place}

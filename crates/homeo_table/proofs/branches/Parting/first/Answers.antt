@@ -1,7 +1,7 @@
 -- The command alone is left.
 use Rattle.std.proofs.Common.{◌∷◌, [], ◌++◌, map, refl, ap, ◌∙◌}
 use Rattle.homeo_syntax.specs.LowView.{plain_lcommand}
-use Rattle.homeo_table.specs.Partings.{rows_from}
+use Rattle.homeo_table.specs.inner.Partings.{rows_from}
 use Rattle.homeo_table.proofs.Following.{pushed-left}
 use Rattle.homeo_table.proofs.Parted.{first-rows}
 use Rattle.homeo_table.proofs.branches.Parting.first.Goals as goal

@@ -1,6 +1,6 @@
 -- One more command.
 use Rattle.homeo_syntax.specs.LowView.{plain_lcommand}
-use Rattle.homeo_table.specs.Partings.{tests_of}
+use Rattle.homeo_table.specs.inner.Partings.{tests_of}
 use Rattle.homeo_table.specs.inner.Makings.{completed}
 use Rattle.homeo_table.proofs.Makings.{row-command, begins-same, begins-more}
 use Rattle.homeo_table.proofs.making.Making.follow.Goals as goal

@@ -1,6 +1,6 @@
 -- One more command, and what it sets.
 use Rattle.homeo_syntax.specs.LowView.{plain_lcommand}
-use Rattle.homeo_table.specs.Partings.{tests_of}
+use Rattle.homeo_table.specs.inner.Partings.{tests_of}
 use Rattle.homeo_table.specs.inner.Makings.{completed}
 use Rattle.homeo_table.proofs.Makings.{row-set, begins-same, begins-more}
 use Rattle.homeo_table.proofs.making.Making.follow_set.Goals as goal

@@ -2,7 +2,7 @@
 use Rattle.std.proofs.Common.{take, sym, ap, ◌∙◌}
 use Rattle.std.proofs.lemmas.List.{length-map}
 use Rattle.homeo_syntax.specs.LowView.{plain_ltest, plain_lcommand}
-use Rattle.homeo_table.specs.Partings.{tests_of, commands_of}
+use Rattle.homeo_table.specs.inner.Partings.{tests_of, commands_of}
 use Rattle.homeo_table.specs.inner.Makings.{completed}
 use Rattle.homeo_table.proofs.Makings.{row-same, begins-same}
 use Rattle.homeo_table.proofs.making.Making.mark.Goals as goal

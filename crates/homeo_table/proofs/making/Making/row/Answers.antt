@@ -2,7 +2,7 @@
 use Rattle.std.proofs.Common.{map, ap, ◌∙◌}
 use Rattle.homeo_syntax.specs.LowView.{low_tests, low_commands, plain_lcommand}
 use Rattle.homeo_substitution.specs.Bindings.{bound}
-use Rattle.homeo_table.specs.Partings.{tests_of, commands_of}
+use Rattle.homeo_table.specs.inner.Partings.{tests_of, commands_of}
 use Rattle.homeo_table.specs.inner.Makings.{completed}
 use Rattle.homeo_table.proofs.Makings.{row_of, row-last}
 use Rattle.homeo_table.proofs.making.Making.row.Goals as goal

@@ -4,7 +4,7 @@ use Rattle.homeo_syntax.specs.Low.{Not}
 use Rattle.homeo_syntax.specs.LowView.{plain_ltest}
 use Rattle.homeo_syntax.proofs.LowViews.{low_Not}
 use Rattle.homeo_table.specs.inner.Makings.{completed}
-use Rattle.homeo_table.specs.Partings.{commands_of}
+use Rattle.homeo_table.specs.inner.Partings.{commands_of}
 use Rattle.homeo_table.proofs.Makings.{row-fails, begins-same, begins-more}
 use Rattle.homeo_table.proofs.making.Making.where_fails.Goals as goal
 

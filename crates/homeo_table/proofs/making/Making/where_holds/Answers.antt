@@ -4,7 +4,7 @@ use Rattle.std.proofs.lemmas.Result.{IfOk-weaker}
 use Rattle.homeo_syntax.specs.LowView.{low_tests, plain_ltest}
 use Rattle.homeo_syntax.proofs.LowViews.{low_conjunction}
 use Rattle.homeo_table.specs.inner.Makings.{completed}
-use Rattle.homeo_table.specs.Partings.{commands_of}
+use Rattle.homeo_table.specs.inner.Partings.{commands_of}
 use Rattle.homeo_table.proofs.Makings.{row-tests, begins-same, begins-append}
 use Rattle.homeo_table.proofs.making.Making.where_holds.Goals as goal
 

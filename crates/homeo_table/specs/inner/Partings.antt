@@ -11,7 +11,7 @@ use Rattle.homeo_substitution.specs.Substitution.{substituted_cond}
 use Rattle.homeo_table.specs.declared.making.Making.{Making}
 use Rattle.homeo_table.specs.declared.making.Mark.{Mark}
 use Rattle.homeo_table.specs.declared.branches.Parting.{Parting}
-use Rattle.homeo_table.specs.Key.{definitions}
+use Rattle.homeo_table.specs.inner.Key.{definitions}
 
 -- the tests of a row in the making, and its commands
 abbrev pub tests_of : Making → List Test
