@@ -6,18 +6,20 @@ use homeo_syntax::{LCommand, LTest, Memory};
 use std::alloc::Global;
 use std::marker::Model;
 
-/// A cursor over the rows of a command's symbolic table (Roy et al., SIGMOD 2015), in their order: the rows that are still to
-/// come, and the row that was reached last.
+/// A cursor over the rows of a command's symbolic table (Roy et al., SIGMOD 2015), in their order. It is seen as the command, how
+/// many rows of its table were passed, and whether the cursor stands on the last of these. Before the first row and behind the
+/// last it stands on none.
 ///
 /// Rows share the tests and commands that stand before their branches part. So the memory is that of the tests of one row, and,
 /// for each `if` on its way, of the places that are set there and the commands that are left.
 #[derive(Drop)]
 pub struct Rows<'a> {
+    /// The command whose rows these are.
     command: &'a LCommand,
     branch: Branch<'a>,
     /// The branches that are still to be followed, the next one last.
     partings: Vec<Parting<'a>>,
-    /// Whether a row was reached.
+    /// Whether the branch is that of a row, followed to its end.
     there: bool,
 }
 
@@ -73,7 +75,7 @@ impl<'a> Rows<'a> {
     ///
     /// # Errors
     ///
-    /// `Memory` when out of memory. Then no rows are to come.
+    /// `Memory` when out of memory. Then no rows are to come, and it stands on none.
     pub fn next(&mut self, alloc: Global) -> Result<bool, Memory>
         ensures command { self.new.command ≡ self.old.command }
         ensures there { IfOk result (λ there. self.new.there ≡ there) }
@@ -100,7 +102,7 @@ impl<'a> Rows<'a> {
         }
     }
 
-    /// The tests of the formula of the row that was reached last.
+    /// The tests of the formula of the row that it stands on.
     pub fn formula(&self) -> &[LTest]
         requires there { self.now.there ≡ true }
         ensures { low_tests (map plain_ltest result.now) ≡ (reached self.now).formula }
@@ -108,7 +110,7 @@ impl<'a> Rows<'a> {
         self.branch.row.tests()
     }
 
-    /// The commands of its residual.
+    /// The commands of the residual of the row that it stands on.
     pub fn residual(&self) -> &[&'a LCommand]
         requires there { self.now.there ≡ true }
         ensures { low_commands (map (λ c. plain_lcommand c.now) result.now) ≡ (reached self.now).residual }
@@ -116,7 +118,7 @@ impl<'a> Rows<'a> {
         self.branch.row.commands()
     }
 
-    /// A copy of the row that was reached last.
+    /// A copy of the row that it stands on.
     pub(crate) fn row(&self, alloc: Global) -> Result<Row, Memory>
         requires there { self.now.there ≡ true }
         ensures { IfOk result (λ r. plain_row r ≡ reached self.now) }
