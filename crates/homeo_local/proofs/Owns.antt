@@ -67,11 +67,6 @@ stays_or_fits deltas x d there f n = go (x == n) (padded_set deltas x d (pos 0) 
     go true e = inr (subst (FitsSigned w64) (sym e) f)
     go false e = inl e
 
-pub either_then : {a b c : ℤ} → (b ≡ a) ⊎ FitsSigned w64 b → (c ≡ b) ⊎ FitsSigned w64 c → (c ≡ a) ⊎ FitsSigned w64 c
-either_then h (inr f) = inr f
-either_then (inl e) (inl g) = inl (g ∙ e)
-either_then (inr f) (inl g) = inr (subst (FitsSigned w64) (sym g) f)
-
 -- ---- where a run begins, and what it leaves
 begins_at : (base deltas : List ℤ) → ((n : ℕ) → FitsSigned w64 (own_values base deltas n)) → (q : Location) → own_with base deltas [] [] q ≡ whole (own_values base deltas) q
 unfolding definitions

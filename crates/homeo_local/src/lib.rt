@@ -1,7 +1,6 @@
 //! A call's command over whole objects, run at a site by itself, on its base and its own deltas.
 #![tactic(auto)]
 
-mod commands;
 mod own;
 mod step;
 

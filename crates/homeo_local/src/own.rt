@@ -1,13 +1,12 @@
 //! The values that a run at a site reads and changes.
 
-ghost use Rattle.std.specs.Prelude.{◌≡◌, ◌<◌, true, length, OnOk};
-ghost use Rattle.homeo_meaning.specs.LowMeaning.{TempAt, BaseAt, location_of, put};
-ghost use Rattle.homeo_split.specs.Shape.{has_place};
-ghost use Rattle.homeo_local.specs.OwnValues.{own_shape};
-ghost use Rattle.homeo_local.specs.inner.Own.{plain_own, Keeps, StaysOrFits};
+ghost use Rattle.std.specs.Prelude.{◌≡◌, ◌<◌, length, OnOk};
+ghost use Rattle.homeo_meaning.specs.LowMeaning.{BaseAt, put};
+ghost use Rattle.homeo_local.specs.inner.Own.{plain_own};
+ghost use Rattle.homeo_local.specs.inner.Leads.{Leads};
 
 use homeo_meaning::padded::{item_or, put};
-use homeo_split::Reads;
+use homeo_split::{Reads, Store};
 use homeo_syntax::{Memory, SplitName, Temp};
 
 /// The base, the site's deltas, the temporaries, named and fresh, and the objects that were written, in order.
@@ -24,8 +23,6 @@ pub(crate) struct Own<'a> {
 }
 
 impl Reads for Own<'_> {
-    ghost use Rattle.std.specs.Prelude.{◌≡◌};
-    ghost use Rattle.homeo_meaning.specs.LowMeaning.{TempAt, location_of};
     ghost use Rattle.homeo_local.specs.inner.Own.{plain_own};
 
     ghost values = { λ o. plain_own o };
@@ -48,36 +45,24 @@ impl Reads for Own<'_> {
     }
 }
 
-impl Own<'_> {
-    /// The value of an object.
-    fn object(&self, x: usize) -> i64
-        ensures { result ≡ plain_own self.now (BaseAt x) }
-    {
-        item_or(self.base, x, 0).wrapping_add(item_or(self.deltas.as_slice(), x, 0))
-    }
+impl Store for Own<'_> {
+    ghost use Rattle.std.specs.Prelude.{length};
+    ghost use Rattle.std.proofs.Common.{ap};
+    ghost use Rattle.homeo_local.specs.OwnValues.{own_shape};
+    ghost use Rattle.homeo_local.specs.inner.Leads.{Leads, stays, goes_on};
 
-    /// Sets a temporary.
-    pub(crate) fn assign(&mut self, t: Temp, v: i64) -> Result<(), Memory>
-        ensures base { self.new.base ≡ self.old.base }
-        ensures deltas { self.new.deltas ≡ self.old.deltas }
-        ensures written { self.new.written ≡ self.old.written }
-        ensures set { OnOk result (plain_own self.new ≡ put (plain_own self.old) (TempAt t) v) }
-    {
+    ghost shape = { λ o. own_shape (length o.deltas.items) };
+
+    ghost leads_to = { λ o p. Leads o p };
+
+    fn assign(&mut self, t: Temp, v: i64) -> Result<(), Memory> {
         match t {
             Temp::Named(n) => put(&mut self.named, n as usize, v, 0),
             Temp::Fresh(n) => put(&mut self.fresh, n as usize, v, 0),
         }
     }
 
-    /// Sets a name that is there.
-    pub(crate) fn write(&mut self, x: SplitName, v: i64) -> Result<(), Memory>
-        requires { has_place (own_shape (length self.old.deltas.items)) x ≡ true }
-        ensures base { self.new.base ≡ self.old.base }
-        ensures count { length self.new.deltas.items ≡ length self.old.deltas.items }
-        ensures set { OnOk result (plain_own self.new ≡ put (plain_own self.old) (location_of x) v) }
-        ensures keeps { OnOk result (Keeps self.old self.new) }
-        ensures fits { OnOk result (StaysOrFits self.old self.new) }
-    {
+    fn write(&mut self, x: SplitName, v: i64) -> Result<(), Memory> {
         match x {
             SplitName::Whole(object) => self.set_object(object, v),
             SplitName::Base(object) => self.set_object(object, v),
@@ -86,14 +71,26 @@ impl Own<'_> {
         }
     }
 
+    ghost keeps_shape = { λ o p l. ap own_shape l.count };
+
+    ghost stays = { stays };
+
+    ghost goes_on = { goes_on };
+}
+
+impl Own<'_> {
+    /// The value of an object.
+    fn object(&self, x: usize) -> i64
+        ensures { result ≡ plain_own self.now (BaseAt x) }
+    {
+        item_or(self.base, x, 0).wrapping_add(item_or(self.deltas.as_slice(), x, 0))
+    }
+
     /// Sets an object that is there.
     fn set_object(&mut self, x: u32, v: i64) -> Result<(), Memory>
         requires { x < length self.old.deltas.items }
-        ensures base { self.new.base ≡ self.old.base }
-        ensures count { length self.new.deltas.items ≡ length self.old.deltas.items }
         ensures set { OnOk result (plain_own self.new ≡ put (plain_own self.old) (BaseAt x) v) }
-        ensures keeps { OnOk result (Keeps self.old self.new) }
-        ensures fits { OnOk result (StaysOrFits self.old self.new) }
+        ensures leads { OnOk result (Leads self.old self.new) }
     {
         self.written.push(x)?;
         self.deltas[x as usize] = v.wrapping_sub(item_or(self.base, x as usize, 0));

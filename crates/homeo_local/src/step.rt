@@ -12,9 +12,9 @@ ghost use Rattle.homeo_split.specs.CanExec.{run_limit, can_exec};
 ghost use Rattle.homeo_split.specs.Shape.{has_places};
 ghost use Rattle.homeo_local.specs.OwnValues.{own_values, own_shape};
 
-use crate::commands::run;
 use crate::own::Own;
 use homeo_meaning::Database;
+use homeo_split::run;
 use homeo_syntax::{LCommand, List, Memory, Prints};
 use std::alloc::Global;
 

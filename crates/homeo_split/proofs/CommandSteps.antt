@@ -15,7 +15,7 @@ use Rattle.homeo_meaning.specs.LowMeaning.{State, Run, TempAt, location_of, put,
 use Rattle.homeo_meaning.proofs.Steps.{drop_next, drop_none}
 use Rattle.homeo_split.specs.Key.{definitions}
 use Rattle.homeo_split.specs.CanExec.{expr_fits, cond_fits, can_exec, can_exec_all}
-use Rattle.homeo_split.specs.inner.States.{run_of}
+use Rattle.homeo_split.specs.States.{run_of}
 use Rattle.homeo_split.specs.Shape.{Shape, has_place, has_places, has_places_all}
 
 after_done : (ps : List ℤ) (s : State) → after_prints ps (record { state = s; prints = [] }) ≡ run_of s ps

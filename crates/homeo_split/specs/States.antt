@@ -1,8 +1,8 @@
--- The states that split databases stand for.
+-- The states that split databases stand for, and runs.
 use Rattle.std.specs.Prelude.{◌≡◌, ℕ, ℤ, pos, List, [], map, slice_index_or}
 use Rattle.homeo_syntax.specs.declared.low.Temp.TheVariants.{Named, Fresh}
 use Rattle.homeo_syntax.specs.declared.low.SplitName.{SplitName}
-use Rattle.homeo_meaning.specs.LowMeaning.{State, TempAt, BaseAt, DeltaAt, location_of}
+use Rattle.homeo_meaning.specs.LowMeaning.{State, Run, TempAt, BaseAt, DeltaAt, location_of}
 use Rattle.homeo_split.specs.Key.{definitions}
 use Rattle.homeo_split.specs.declared.split.Split.{Split}
 
@@ -25,3 +25,8 @@ state_of s = state_with s.base.items (map (λ d. d.items) s.deltas.items) [] []
 -- two states have the same values at the base and the deltas
 abbrev pub AgreeOnNames : State → State → Type 0
 AgreeOnNames s u = (x : SplitName) → s (location_of x) ≡ u (location_of x)
+
+-- a state and prints so far
+abbrev pub run_of : State → List ℤ → Run
+unfolding definitions
+run_of s prints = record { state = s; prints = prints }

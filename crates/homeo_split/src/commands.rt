@@ -4,39 +4,42 @@ ghost use Rattle.std.specs.Prelude.{◌≡◌, true, map, OnOk};
 ghost use Rattle.homeo_syntax.specs.LowView.{low_commands, plain_lcommand};
 ghost use Rattle.homeo_meaning.specs.LowMeaning.{after_prints, exec, exec_all};
 ghost use Rattle.homeo_split.specs.CanExec.{run_limit, can_exec, can_exec_all};
-ghost use Rattle.homeo_split.specs.inner.States.{plain_state, state_shape, run_of};
+ghost use Rattle.homeo_split.specs.States.{run_of};
 ghost use Rattle.homeo_split.specs.Shape.{has_places, has_places_all};
 
 use crate::phrases::{holds, value};
-use crate::state::State;
-use homeo_syntax::{LCommand, List, Memory};
+use crate::store::Store;
+use homeo_syntax::{LCommand, Memory, Prints};
 
 /// Runs a command: the state is left as the command leaves it, and its prints are added.
+///
+/// Each place that the command writes must be there, and no number that the run meets may be above 2 * 10^18 in size.
+///
+/// # Errors
+///
+/// `Memory` where memory is wanting.
 #[cycle(runs)]
 #[tactic(auto, using(homeo_syntax::proofs::LowViews::low_command_views, crate::proofs::CommandSteps::runs))]
-pub(crate) fn run(c: &LCommand, state: &mut State, prints: &mut List<i64>) -> Result<(), Memory>
-    requires places { has_places (state_shape state.old) (plain_lcommand c.now) ≡ true }
-    requires runs { can_exec run_limit (plain_lcommand c.now) (plain_state state.old) ≡ true }
-    ensures shape { state_shape state.new ≡ state_shape state.old }
-    ensures run { OnOk result (run_of (plain_state state.new) prints.new.items ≡
-        after_prints prints.old.items (exec (plain_lcommand c.now) (plain_state state.old))) }
+pub fn run<S: Store>(c: &LCommand, state: &mut S, prints: &mut Prints) -> Result<(), Memory>
+    requires places { has_places (S.shape state.old) (plain_lcommand c.now) ≡ true }
+    requires runs { can_exec run_limit (plain_lcommand c.now) (S.values state.old) ≡ true }
+    ensures run { OnOk result (run_of (S.values state.new) prints.new.items ≡
+        after_prints prints.old.items (exec (plain_lcommand c.now) (S.values state.old))) }
+    ensures leads { OnOk result (S.leads_to state.old state.new) }
 {
     match c {
         LCommand::Skip => Ok(()),
         LCommand::Assign { target, value: e } => {
             let v = value(e, state);
-            state.assign(*target, v)?;
-            Ok(())
+            state.assign(*target, v)
         }
         LCommand::Write { target, value: e } => {
             let v = value(e, state);
-            state.write(*target, v);
-            Ok(())
+            state.write(*target, v)
         }
         LCommand::Print { value: e } => {
             let v = value(e, state);
-            prints.push(v)?;
-            Ok(())
+            prints.push(v)
         }
         LCommand::If { test, yes, no } => {
             if holds(test, state) {
@@ -52,15 +55,15 @@ pub(crate) fn run(c: &LCommand, state: &mut State, prints: &mut List<i64>) -> Re
 /// Runs commands one after another.
 #[cycle(runs)]
 #[tactic(auto, using(crate::proofs::CommandSteps::each, homeo_meaning::proofs::Steps::steps))]
-fn run_all(cs: &[LCommand], state: &mut State, prints: &mut List<i64>) -> Result<(), Memory>
-    requires places { has_places_all (state_shape state.old)
+fn run_all<S: Store>(cs: &[LCommand], state: &mut S, prints: &mut Prints) -> Result<(), Memory>
+    requires places { has_places_all (S.shape state.old)
         (low_commands (map plain_lcommand cs.now)) ≡ true }
     requires runs { can_exec_all run_limit (low_commands (map plain_lcommand cs.now))
-        (plain_state state.old) ≡ true }
-    ensures shape { state_shape state.new ≡ state_shape state.old }
-    ensures run { OnOk result (run_of (plain_state state.new) prints.new.items ≡
+        (S.values state.old) ≡ true }
+    ensures run { OnOk result (run_of (S.values state.new) prints.new.items ≡
         after_prints prints.old.items (exec_all (low_commands (map plain_lcommand cs.now))
-        (plain_state state.old))) }
+        (S.values state.old))) }
+    ensures leads { OnOk result (S.leads_to state.old state.new) }
 {
     for c in cs {
         run(c, state, prints)?;

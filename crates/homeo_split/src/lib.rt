@@ -1,4 +1,4 @@
-//! Commands over split names, run on a database that is split over sites; and what is true of such commands.
+//! Commands over split names, run on a database that is split over sites and on whatever else can be set; and what is true of such commands.
 #![tactic(auto)]
 
 mod arithmetic;
@@ -11,10 +11,13 @@ mod runs;
 mod shape;
 mod split;
 mod state;
+mod store;
 
 pub use arithmetic::{minus, plus, times};
+pub use commands::run;
 pub use phrases::{holds, value};
 pub use places::{Place, place_of, place_of_temp};
 pub use reads::Reads;
 pub use runs::eval_l;
 pub use split::Split;
+pub use store::Store;

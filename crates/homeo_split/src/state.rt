@@ -1,11 +1,11 @@
 //! The values that a run reads and changes.
 
-ghost use Rattle.std.specs.Prelude.{◌≡◌, true, OnOk};
-ghost use Rattle.homeo_meaning.specs.LowMeaning.{TempAt, DeltaAt, location_of, put};
-ghost use Rattle.homeo_split.specs.inner.States.{plain_state, state_shape};
-ghost use Rattle.homeo_split.specs.Shape.{has_place};
+ghost use Rattle.std.specs.Prelude.{◌≡◌};
+ghost use Rattle.homeo_meaning.specs.LowMeaning.{DeltaAt};
+ghost use Rattle.homeo_split.specs.inner.States.{plain_state};
 
 use crate::reads::Reads;
+use crate::store::Store;
 use homeo_meaning::padded::{item_or, put};
 use homeo_syntax::{Memory, SplitName, Temp};
 
@@ -19,8 +19,6 @@ pub(crate) struct State {
 }
 
 impl Reads for State {
-    ghost use Rattle.std.specs.Prelude.{◌≡◌};
-    ghost use Rattle.homeo_meaning.specs.LowMeaning.{TempAt, location_of};
     ghost use Rattle.homeo_split.specs.inner.States.{plain_state};
 
     ghost values = { λ s. plain_state s };
@@ -43,31 +41,39 @@ impl Reads for State {
     }
 }
 
-impl State {
-    /// Sets a temporary.
-    pub(crate) fn assign(&mut self, t: Temp, v: i64) -> Result<(), Memory>
-        ensures shape { state_shape self.new ≡ state_shape self.old }
-        ensures set { OnOk result (plain_state self.new ≡ put (plain_state self.old) (TempAt t) v) }
-    {
+impl Store for State {
+    ghost use Rattle.std.specs.Prelude.{◌≡◌, refl};
+    ghost use Rattle.std.proofs.Common.{◌∙◌};
+    ghost use Rattle.homeo_split.specs.inner.States.{state_shape};
+
+    ghost shape = { λ s. state_shape s };
+
+    ghost leads_to = { λ s t. state_shape t ≡ state_shape s };
+
+    fn assign(&mut self, t: Temp, v: i64) -> Result<(), Memory> {
         match t {
             Temp::Named(n) => put(&mut self.named, n as usize, v, 0),
             Temp::Fresh(n) => put(&mut self.fresh, n as usize, v, 0),
         }
     }
 
-    /// Sets a name that is there.
-    pub(crate) fn write(&mut self, x: SplitName, v: i64)
-        requires { has_place (state_shape self.old) x ≡ true }
-        ensures shape { state_shape self.new ≡ state_shape self.old }
-        ensures set { plain_state self.new ≡ put (plain_state self.old) (location_of x) v }
-    {
+    fn write(&mut self, x: SplitName, v: i64) -> Result<(), Memory> {
         match x {
             SplitName::Whole(object) => self.base[object as usize] = v,
             SplitName::Base(object) => self.base[object as usize] = v,
             SplitName::Delta { object, site } => self.deltas[site as usize][object as usize] = v,
         }
+        Ok(())
     }
 
+    ghost keeps_shape = { λ s t same. same };
+
+    ghost stays = { λ s. refl };
+
+    ghost goes_on = { λ s t u first then. then ∙ first };
+}
+
+impl State {
     #[tactic(auto, unfolding(crate::specs::Key::definitions))]
     fn delta(&self, object: usize, site: usize) -> i64
         ensures { result ≡ plain_state self.now (DeltaAt object site) }

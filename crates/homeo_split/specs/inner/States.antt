@@ -1,6 +1,6 @@
--- The states, shapes and runs that the lists of a run stand for.
-use Rattle.std.specs.Prelude.{ℤ, List, map, length}
-use Rattle.homeo_meaning.specs.LowMeaning.{State, Run}
+-- The states and shapes that the lists of a run stand for.
+use Rattle.std.specs.Prelude.{map, length}
+use Rattle.homeo_meaning.specs.LowMeaning.{State}
 use Rattle.homeo_split.specs.declared.state.State as code
 use Rattle.homeo_split.specs.Key.{definitions}
 use Rattle.homeo_split.specs.Shape.{Shape}
@@ -13,7 +13,3 @@ plain_state s = state_with s.base.items (map (λ d. d.items) s.deltas.items) s.n
 abbrev pub state_shape : code.State → Shape
 unfolding definitions
 state_shape s = record { base = length s.base.items; deltas = map (λ d. length d.items) s.deltas.items }
-
-abbrev pub run_of : State → List ℤ → Run
-unfolding definitions
-run_of s prints = record { state = s; prints = prints }

@@ -11,7 +11,7 @@ use Rattle.homeo_syntax.specs.LowView.{plain_lcommand}
 use Rattle.homeo_meaning.specs.LowMeaning.{BaseAt, exec}
 use Rattle.homeo_meaning.specs.Serial.{values_of}
 use Rattle.homeo_split.specs.CanExec.{run_limit, can_exec}
-use Rattle.homeo_split.proofs.CommandSteps.{run_Skip, left_state, left_prints}
+use Rattle.homeo_split.proofs.CommandSteps.{left_state, left_prints}
 use Rattle.homeo_local.specs.inner.Key.{definitions}
 use Rattle.homeo_local.proofs.Owns.{begins, left_delta, kept}
 use Rattle.homeo_local.proofs.step.local_step.Goals as goal
@@ -26,7 +26,7 @@ pub returns-clause-prints : goal.returns-clause-prints
 unfolding definitions
 returns-clause-prints c =
     let begun = begins c.args.base.now c.args.deltas.now _ _ _ c.in_ok-from_slice.ensures.items c.new.ensures.items c.new-2.ensures.items c.requires.sums in
-    left_prints _ _ _ _ (sym (run_Skip _ _) ∙ c.in_ok-run.ensures.run)
+    left_prints _ _ _ _ c.in_ok-run.ensures.run
     ∙ (λ i. (c.new-prints.ensures i).items ++ (exec (plain_lcommand c.args.c.now) (begun i)).prints)
 
 pub returns-clause-deltas : goal.returns-clause-deltas
@@ -34,11 +34,11 @@ unfolding definitions
 returns-clause-deltas c n fits =
     let begun = begins c.args.base.now c.args.deltas.now _ _ _ c.in_ok-from_slice.ensures.items c.new.ensures.items c.new-2.ensures.items c.requires.sums in
     let state = c.run.new.state in
-    let ran = left_state _ _ _ _ (sym (run_Skip _ _) ∙ c.in_ok-run.ensures.run) in
+    let ran = left_state _ _ _ _ c.in_ok-run.ensures.run in
     let is = ap (λ s. s (BaseAt n)) ran ∙ ap (λ s. (exec (plain_lcommand c.args.c.now) s).state (BaseAt n)) begun in
     let old = ap (λ l. values_of l n) c.in_ok-from_slice.ensures.items in
-    let stays = subst (λ e. (values_of state.deltas.items n ≡ e) ⊎ FitsSigned w64 (values_of state.deltas.items n)) old (c.in_ok-run.ensures.fits n) in
-    let base = ap (λ b. int_wrap w64 (values_of b.now n +ℤ values_of state.deltas.items n)) c.in_ok-run.ensures.base in
+    let stays = subst (λ e. (values_of state.deltas.items n ≡ e) ⊎ FitsSigned w64 (values_of state.deltas.items n)) old (c.in_ok-run.ensures.leads.fits n) in
+    let base = ap (λ b. int_wrap w64 (values_of b.now n +ℤ values_of state.deltas.items n)) c.in_ok-run.ensures.leads.base in
     ap (λ l. values_of l.items n) c.from_vec.ensures
     ∙ left_delta (values_of c.args.base.now n) (values_of state.deltas.items n) _ (sym base ∙ is) (values_of c.args.deltas.now n) (c.requires.sums n) stays fits
 
@@ -48,7 +48,7 @@ returns-clause-written c n none =
     let state = c.run.new.state in
     let of_dedup = ap (λ l. list_any (λ m. n == m) l) (sym (dedup_is _ _ _ c.dedup.ensures.filtered) ∙ sym (ap (λ l. l.items) c.from_vec-2.ensures)) ∙ none in
     let absent = list_any-IsPermutation (λ m. n == m) state.written.items c.sort_unstable.new.self.items c.sort_unstable.ensures.permutation ∙ kept n c.sort_unstable.new.self.items of_dedup in
-    let stays = c.in_ok-run.ensures.keeps n absent in
+    let stays = c.in_ok-run.ensures.leads.keeps n absent in
     ap (λ l. values_of l.items n) c.from_vec.ensures ∙ stays.1 ∙ ap (λ l. values_of l n) c.in_ok-from_slice.ensures.items
 
 pub returns-clause-rising : goal.returns-clause-rising

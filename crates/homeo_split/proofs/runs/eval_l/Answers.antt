@@ -53,5 +53,5 @@ returns-clause-shape c =
     let before = same_lengths (λ v. v.items) (λ d. d.items) c.in_ok-copied_all.field-0.items c.args.database.now.deltas.items deltas in
     let after = same_lengths (λ d. d.items) (λ v. v.items) c.in_ok-deltas.deltas.items c.run.new.state.deltas.items c.in_ok-deltas.ensures in
     (λ i. record { base = length (c.from_vec.ensures i).items; deltas = after i })
-    ∙ c.in_ok-run.ensures.shape
+    ∙ c.in_ok-run.ensures.leads
     ∙ (λ i. record { base = length (base i); deltas = before i })

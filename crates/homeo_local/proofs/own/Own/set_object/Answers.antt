@@ -1,7 +1,9 @@
 -- The object has the value that its delta was made for.
-use Rattle.std.proofs.Common.{rules, ◌∙◌, sym, ap, subst, set, ◌-ℤ◌, FitsSigned, SFits, w64}
+use Rattle.std.proofs.Common.{rules, refl, ◌∙◌, sym, ap, subst, set, ◌-ℤ◌, FitsSigned, SFits, w64, arith}
 use Rattle.std.specs.Int.{int_wrap}
+use Rattle.std.proofs.lemmas.Grind.{common_steps}
 use Rattle.std.proofs.lemmas.Int.{wrapping_sub_is, SFits-int_wrap}
+use Rattle.std.proofs.lemmas.List.{length-set}
 use Rattle.homeo_local.specs.inner.Key.{definitions}
 use Rattle.homeo_local.specs.inner.Own.{own_with}
 use Rattle.homeo_local.proofs.Owns.{set_object, stays_or_fits}
@@ -16,9 +18,14 @@ returns-clause-set c =
     ap (λ d. own_with s.base.now (set s.deltas.items c.args.x d) s.named.items s.fresh.items) delta
     ∙ set_object s.base.now s.deltas.items c.args.x c.args.v c.requires c.ranges.v s.named.items s.fresh.items
 
-pub returns-clause-fits : goal.returns-clause-fits
+pub returns-clause-leads : goal.returns-clause-leads
 unfolding definitions
-returns-clause-fits c =
+returns-clause-leads c =
     let base : SFits w64 c.item_or.result = search rules in
     let delta = wrapping_sub_is w64 c.args.v c.item_or.result c.ranges.v base in
-    stays_or_fits c.args.self.now.deltas.items c.args.x _ c.requires (subst (FitsSigned w64) (sym delta) (SFits-int_wrap w64 (c.args.v -ℤ c.item_or.result)))
+    record {
+      base = refl;
+      count = length-set _ _ _;
+      keeps = λ n h. grind (arith, common_steps);
+      fits = stays_or_fits c.args.self.now.deltas.items c.args.x _ c.requires (subst (FitsSigned w64) (sym delta) (SFits-int_wrap w64 (c.args.v -ℤ c.item_or.result)));
+    }

@@ -10,7 +10,7 @@ use Rattle.homeo_split.specs.States.{state_with}
 use Rattle.homeo_split.specs.inner.States.{plain_state, state_shape}
 use Rattle.homeo_split.specs.Shape.{has_place}
 use Rattle.homeo_split.proofs.States.{has_base, set_base, site_is, object_is, same_lengths, set_site}
-use Rattle.homeo_split.proofs.state.State.write.Goals as goal
+use Rattle.homeo_split.proofs.state.StateStore.write.Goals as goal
 
 pub index_mut-requires : goal.index_mut-requires
 unfolding definitions
@@ -24,15 +24,15 @@ index_mut-requires-in-Base c =
     let has = subst (λ x. has_place (state_shape c.args.self.now) x ≡ true) c.in-Base.is c.requires in
     subst (λ n. c.in-Base.object < n) (sym c.args.self.now.base.ok.0) (has_base (state_shape c.args.self.now) c.in-Base.object has)
 
-pub returns-in-Whole-clause-shape : goal.returns-in-Whole-clause-shape
+pub returns-in-Whole-clause-leads : goal.returns-in-Whole-clause-leads
 unfolding definitions
-returns-in-Whole-clause-shape c =
+returns-in-Whole-clause-leads c =
     let s = c.args.self.now in
     λ i. record { base = length-set s.base.items c.in-Whole.object (to_z w64 (of_z w64 c.args.v)) i; deltas = map (λ d. length d.items) s.deltas.items }
 
-pub returns-in-Base-clause-shape : goal.returns-in-Base-clause-shape
+pub returns-in-Base-clause-leads : goal.returns-in-Base-clause-leads
 unfolding definitions
-returns-in-Base-clause-shape c =
+returns-in-Base-clause-leads c =
     let s = c.args.self.now in
     λ i. record { base = length-set s.base.items c.in-Base.object (to_z w64 (of_z w64 c.args.v)) i; deltas = map (λ d. length d.items) s.deltas.items }
 
@@ -73,9 +73,9 @@ index_mut-requires-in-Delta-2 c =
     let has = subst (λ x. has_place (state_shape s) x ≡ true) c.in-Delta.is c.requires in
     subst (λ n. c.in-Delta.object < n) (sym here.ok.0) (object_is (λ d. d.items) s.deltas.items c.in-Delta.object c.in-Delta.site (length s.base.items) has here c.index_mut-in-Delta.ensures.value)
 
-pub returns-in-Delta-clause-shape : goal.returns-in-Delta-clause-shape
+pub returns-in-Delta-clause-leads : goal.returns-in-Delta-clause-leads
 unfolding definitions
-returns-in-Delta-clause-shape c =
+returns-in-Delta-clause-leads c =
     let s = c.args.self.now in
     let here = c.index_mut-in-Delta.result.now in
     let new = with_item here c.in-Delta.object (to_z w64 (of_z w64 c.args.v)) in

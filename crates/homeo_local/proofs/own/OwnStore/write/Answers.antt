@@ -9,8 +9,9 @@ use Rattle.homeo_split.specs.Key.{definitions as split_definitions}
 use Rattle.homeo_split.specs.Shape.{has_place}
 use Rattle.homeo_split.proofs.States.{has_base}
 use Rattle.homeo_local.specs.OwnValues.{own_shape}
+use Rattle.homeo_local.specs.inner.Leads.{stays}
 use Rattle.homeo_local.specs.inner.Own.{plain_own}
-use Rattle.homeo_local.proofs.own.Own.write.Goals as goal
+use Rattle.homeo_local.proofs.own.OwnStore.write.Goals as goal
 
 pub set_object-requires : goal.set_object-requires
 unfolding split_definitions
@@ -43,3 +44,6 @@ returns-in-Delta-clause-set c =
     let has : nat_lt c.in-Delta.object 0 ≡ true = subst (λ x. has_place (own_shape (length c.args.self.now.deltas.items)) x ≡ true) c.in-Delta.is c.requires in
     let below : c.in-Delta.object < 0 = grind (arith, nat_tests) in
     absurd (omega arith)
+
+pub returns-in-Delta-clause-leads : goal.returns-in-Delta-clause-leads
+returns-in-Delta-clause-leads c = stays c.args.self.now
