@@ -3,8 +3,8 @@
 ghost use Rattle.std.specs.Prelude.{◌≡◌, ◌<◌, ◌≤◌, ◌^◌, vec_len};
 ghost use Rattle.std.specs.List.{All};
 
-use crate::same::same;
-use homeo_joint::{JointError, joint};
+use crate::same::{same, same_items};
+use homeo_joint::{JointError, joint, joint_of_counts};
 use homeo_plan::{JointRow, Row};
 use homeo_syntax::{LCond, List};
 use std::alloc::Global;
@@ -91,4 +91,14 @@ fn no_tables_have_one_joint_row_without_picks(rt: HostRuntime) {
     let rows = rows_of(&rt, rt.alloc(), 0, 1).expect(&rt, "a joint table");
     same(&rt, &rows.len(), &1);
     assert!(rt; picks_all(rows.first(), 0, 0));
+}
+
+#[test]
+fn the_row_of_the_last_table_changes_fastest(rt: HostRuntime) {
+    let rows = joint_of_counts(rt.alloc(), &[2, 3]).expect(&rt, "a joint table");
+    same(&rt, &rows.len(), &6);
+    let wanted = [[0, 0], [0, 1], [0, 2], [1, 0], [1, 1], [1, 2]];
+    for (row, picks) in rows.iter().zip(wanted.iter()) {
+        same_items(&rt, row.picks.as_slice(), picks.as_slice());
+    }
 }

@@ -1,6 +1,6 @@
-//! The template of two sets of atoms.
+//! The template of two sets of atoms, and the clauses of parts that ask them.
 
-ghost use Rattle.std.specs.Prelude.{◌≡◌};
+ghost use Rattle.std.specs.Prelude.{◌≡◌, length, negsuc};
 ghost use Rattle.std.specs.List.{All};
 ghost use Rattle.homeo_meaning.specs.Small.{IsSmall};
 ghost use Rattle.homeo_plan.specs.Limit.{form_limit};
@@ -8,12 +8,14 @@ ghost use Rattle.homeo_plan_tests.specs.inner.AtomExample.{AreSmall};
 
 use crate::outlines::outline;
 use crate::same::{same, same_items};
+use homeo_follow::PlanPart;
 use homeo_outline::{rebased_slacks, whole_template};
 use homeo_plan::{Atom, AtomSet, Clause, Delta, FreezeSet, Linear, Term};
 use homeo_syntax::List;
-use homeo_template::template;
+use homeo_template::{object_clauses, template};
 use std::alloc::Global;
 use std::process::Abort;
+use std::sync::Arc;
 
 fn delta(object: u32, site: u32) -> Delta {
     Delta { object, site }
@@ -49,18 +51,36 @@ fn pair(rt: &impl Abort, alloc: Global, first: Atom, second: Atom) -> AtomSet
     }
 }
 
-/// Where `d01` is the delta of object 0 at site 1: `2 * d01 - d10 <= 5` in both sets, an atom without terms that mixes `d11`,
-/// and `d00 <= 2`, which mixes `d01`.
+/// Where `d01` is the delta of object 0 at site 1: `2 * d01 - d10 <= 5`.
+fn shared(rt: &impl Abort, alloc: Global) -> Atom
+    ensures { result.form.constant ≡ negsuc 4 }
+{
+    atom(rt, alloc, -5, &[term(0, 1, 2), term(1, 0, -1)], &[])
+}
+
+/// The shared atom, and one without terms that mixes `d11`.
+fn one(rt: &impl Abort, alloc: Global) -> AtomSet
+    ensures { AreSmall result }
+{
+    let shared = shared(rt, alloc);
+    let without_terms = atom(rt, alloc, 0, &[], &[delta(1, 1)]);
+    pair(rt, alloc, shared, without_terms)
+}
+
+/// `d00 <= 2`, which mixes `d01`, and the shared atom.
+fn other(rt: &impl Abort, alloc: Global) -> AtomSet
+    ensures { AreSmall result }
+{
+    let mixed = atom(rt, alloc, -2, &[term(0, 0, 1)], &[delta(0, 1)]);
+    let shared = shared(rt, alloc);
+    pair(rt, alloc, mixed, shared)
+}
+
 fn sets(rt: &impl Abort, alloc: Global) -> Vec<AtomSet>
     ensures { All AreSmall result.items }
 {
-    let shared = [term(0, 1, 2), term(1, 0, -1)];
-    let first = atom(rt, alloc, -5, shared.as_slice(), &[]);
-    let without_terms = atom(rt, alloc, 0, &[], &[delta(1, 1)]);
-    let third = atom(rt, alloc, -2, &[term(0, 0, 1)], &[delta(0, 1)]);
-    let again = atom(rt, alloc, -5, shared.as_slice(), &[]);
-    let one = pair(rt, alloc, first, without_terms);
-    let other = pair(rt, alloc, third, again);
+    let one = one(rt, alloc);
+    let other = other(rt, alloc);
     vec![in alloc; one, other].expect(rt, "memory")
 }
 
@@ -102,6 +122,44 @@ fn equal_atoms_are_one_clause_and_freezes_stand_in_order(rt: HostRuntime) {
         [delta(0, 1), delta(0, 2), delta(1, 0), delta(1, 1)].as_slice(),
     );
     drop(template);
+}
+
+/// A part that asks this, and needs nothing.
+fn part(rt: &impl Abort, alloc: Global, atoms: AtomSet) -> Arc<PlanPart>
+    ensures { result.value.atoms ≡ atoms }
+{
+    let part = PlanPart {
+        atoms,
+        needs: freezes(rt, alloc, &[]),
+    };
+    Arc::new(alloc, part).expect(rt, "memory")
+}
+
+/// Parts that ask what the sets do.
+fn parts(rt: &impl Abort, alloc: Global) -> Vec<Arc<PlanPart>>
+    ensures count { length result.items ≡ 2 }
+    ensures small { All (λ p. AreSmall p.value.atoms) result.items }
+{
+    let one = part(rt, alloc, one(rt, alloc));
+    let other = part(rt, alloc, other(rt, alloc));
+    vec![in alloc; one, other].expect(rt, "memory")
+}
+
+// The second part comes first, and again at the end.
+#[test]
+fn a_clause_stands_once_where_it_is_first_asked(rt: HostRuntime) {
+    let alloc = rt.alloc();
+    let parts = parts(&rt, alloc);
+    let clauses = object_clauses(alloc, parts.as_slice(), &[1, 0, 1]).expect(&rt, "memory");
+    drop(parts);
+    match clauses.as_slice() {
+        [first, second] => {
+            assert!(rt; is_clause(first, [term(0, 0, 1)].as_slice(), 2));
+            assert!(rt; is_clause(second, [term(0, 1, 2), term(1, 0, -1)].as_slice(), 5));
+        }
+        _ => panic!(rt; "two clauses"),
+    }
+    drop(clauses);
 }
 
 // The object goes from 5 to 4: one less may be taken, and one more added.
