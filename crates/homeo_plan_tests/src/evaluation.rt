@@ -5,7 +5,8 @@ ghost use Rattle.homeo_syntax.specs.SourceView.{plain_call, plain_client, plain_
 ghost use Rattle.homeo_plan_tests.specs.inner.Example.{example, less, sale, cashier, transaction};
 
 use crate::same::{same, same_items};
-use homeo_eval::{initial, serial};
+use homeo_context::Declarations;
+use homeo_eval::{eval_call, initial, serial};
 use homeo_meaning::{Accepted, CallId, GroundCall};
 use homeo_syntax::{
     Call, Client, Command, Expr, Ident, List, Number, ObjectDecl, RangeDecl, Text, Transaction,
@@ -169,6 +170,21 @@ fn calls_are_run_one_after_another(rt: HostRuntime) {
         }
         _ => panic!(rt; "two logs"),
     }
+    same_items(&rt, database.as_slice(), [2].as_slice());
+}
+
+// The first sale of 3 leaves 2 of 5, and prints that.
+#[test]
+fn a_call_is_run_by_itself(rt: HostRuntime) {
+    let alloc = rt.alloc();
+    let w = accepted(&rt, alloc);
+    let declared = Declarations::of(alloc, &w).expect(&rt, "memory");
+    let mut database = initial(alloc, &w).expect(&rt, "memory");
+    let call = CallId { client: 0, seq: 1 };
+    let prints = eval_call(alloc, &w, &declared, call, &mut database).expect(&rt, "memory");
+    drop(declared);
+    drop(w);
+    same_items(&rt, prints.as_slice(), [2].as_slice());
     same_items(&rt, database.as_slice(), [2].as_slice());
 }
 

@@ -20,6 +20,8 @@ mod object;
 #[cfg(test)]
 mod outlines;
 #[cfg(test)]
+mod parts;
+#[cfg(test)]
 mod printing;
 #[cfg(test)]
 mod rounds;

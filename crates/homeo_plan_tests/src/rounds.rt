@@ -1,20 +1,24 @@
-//! The plan of the first round of a workload.
+//! The plan of the first round of a workload, and that of the second, made from it.
 
 ghost use Rattle.homeo_syntax.specs.SourceView.{plain_workload};
 ghost use Rattle.homeo_meaning.specs.Schema.{schema_of};
 
+use crate::calls::first;
 use crate::same::{same, same_items};
 use crate::texts::{ONE_WRITER, TWICE, WEIGHTED, accepted};
 use homeo_build::Compiled;
 use homeo_build::compile::compile;
 use homeo_build::residuals::residual;
 use homeo_build::shares::shares;
-use homeo_build::treaties::treaties;
-use homeo_eval::initial;
+use homeo_build::treaties::{plan_after, plan_at, treaties};
+use homeo_eval::{eval, initial};
+use homeo_ground::Grounding;
+use homeo_outline::ObjectPlan;
 use homeo_plan::{Clause, Delta, Residual, RoundPlan, Term};
 use homeo_syntax::{LCommand, List, Numbers, SplitName};
 use std::alloc::Global;
 use std::process::Abort;
+use std::sync::Arc;
 
 /// The plan of the round that begins at the starting values.
 fn first_plan(rt: &impl Abort, alloc: Global, c: &Compiled) -> RoundPlan {
@@ -163,4 +167,43 @@ fn a_site_that_does_not_write_has_no_share(rt: HostRuntime) {
         }
         _ => panic!(rt; "two clauses"),
     }
+}
+
+/// The plan of the round that begins after the first ground call, made from that of the first round.
+fn second_plan(rt: &impl Abort, alloc: Global, c: &Compiled) -> Arc<ObjectPlan> {
+    let w = c.workload();
+    let mut base = initial(alloc, w).expect(rt, "memory");
+    let last = plan_at(alloc, c, &base).expect(rt, "memory");
+    let grounding = Grounding::of(alloc, w, c.declared()).expect(rt, "memory");
+    let call = first(rt, w, grounding.calls());
+    let args = call.args.as_slice();
+    let _prints = eval(alloc, w, call.transaction, args, &mut base).expect(rt, "memory");
+    drop(grounding);
+    let plan = plan_after(alloc, c, &last, &base).expect(rt, "memory");
+    drop(last);
+    plan
+}
+
+/// The clauses by these factors of the object, wherever it is written.
+fn are_whole(terms: &[List<Term>], factors: &[i128]) -> bool {
+    terms.len() == factors.len()
+        && terms.iter().zip(factors.iter()).all(|(own, factor)| own.as_slice()
+            == [term(0, *factor)].as_slice())
+}
+
+// The call raises the object from 5 to 7.
+#[test]
+fn slacks_of_a_later_round_are_those_of_its_base(rt: HostRuntime) {
+    let compiled = compiled(&rt, rt.alloc(), TWICE);
+    let plan = second_plan(&rt, rt.alloc(), &compiled);
+    drop(compiled);
+    same_items(&rt, plan.base.as_slice(), [7].as_slice());
+    same(&rt, &plan.parts.as_slice().len(), &1);
+    same(&rt, &plan.outline.sites(), &2);
+    assert!(rt; are_whole(plan.outline.terms(), [-1, 1, -1, 1].as_slice()));
+    same(&rt, &plan.outline.freezes().len(), &0);
+    same_items(&rt, plan.slacks.as_slice(), [8, 2, 9, 1].as_slice());
+    same_items(&rt, plan.leaders.on(0), [0, 3].as_slice());
+    assert!(rt; plan.bounds.is_none());
+    drop(plan);
 }

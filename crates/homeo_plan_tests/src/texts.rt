@@ -1,4 +1,4 @@
-//! Reading texts, and one that several tests take.
+//! Reading texts, and those that several tests take.
 
 use homeo_meaning::{Accepted, Purpose};
 use std::alloc::Global;
@@ -35,6 +35,16 @@ transaction show() { print(read(x)) }
 transaction raise() { write(x = read(x) + 1) }
 client a at 0 { raise(); show(); raise(); show() }
 schedule a a a a
+end
+";
+
+/// What is asked is whether there is room after the write. There is none, so both prints are taken; before it there was.
+pub(crate) const FILL: &str = "workload 1
+sites 2
+object x in 0..10 = 9
+transaction fill() { write(x = read(x) + 1); s := read(x); if s <= 9 then write(x = s + 1) else { print(s); print(10) } }
+client a at 0 { fill() }
+schedule a
 end
 ";
 

@@ -13,7 +13,7 @@ ghost use Rattle.homeo_ground.specs.Grounding.{IsCalled};
 
 use crate::calls::{first, undivided};
 use crate::same::{same, same_items};
-use crate::texts::{TWICE, accepted};
+use crate::texts::{FILL, TWICE, accepted};
 use homeo_context::Declarations;
 use homeo_delta::transform;
 use homeo_desugar::desugar;
@@ -32,16 +32,6 @@ use std::process::Abort;
 const ROW: &str = "row 0
 when 0 <= (base(x) + x@0 + x@1) + 1 and (base(x) + x@0 + x@1) + 1 <= 10 and 0 <= (base(x) + (((base(x) + x@0 + x@1) + 1) - base(x) - x@1) + x@1) + 1 and (base(x) + (((base(x) + x@0 + x@1) + 1) - base(x) - x@1) + x@1) + 1 <= 10
 do { write(x@0 = ((base(x) + x@0 + x@1) + 1) - base(x) - x@1); write(x@0 = ((base(x) + x@0 + x@1) + 1) - base(x) - x@1) }
-";
-
-/// What is asked is whether there is room after the write. There is none, so both prints are taken; before it there was.
-const FILL: &str = "workload 1
-sites 2
-object x in 0..10 = 9
-transaction fill() { write(x = read(x) + 1); s := read(x); if s <= 9 then write(x = s + 1) else { print(s); print(10) } }
-client a at 0 { fill() }
-schedule a
-end
 ";
 
 /// The row that a command takes at a database: its place in the table, and the row itself by the table and by the walk.
