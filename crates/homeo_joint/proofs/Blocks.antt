@@ -1,7 +1,7 @@
 -- The numbers of joint rows by their digits are the picks of the joint table.
 use Rattle.homeo_plan.specs.Key.{definitions}
 use Rattle.std.proofs.Common.{◌≡◌, ℕ, zero, suc, ◌+◌, ◌*◌, ◌<◌, ◌≤◌, ◌/◌, ◌%◌, List, [], ◌∷◌, ◌++◌, map, drop, length, pos, ℤ, ◌^◌, w64, to_z, Global, refl, sym, ap, ap₂, ◌∙◌, arith}
-use Rattle.std.specs.Prelude.{slice_index_or, Vec, vec_len}
+use Rattle.std.specs.Prelude.{slice_index_or, Vec}
 use Rattle.std.specs.List.{All}
 use Rattle.std.proofs.Math.Nat.{div-le_self}
 use Rattle.std.proofs.lemmas.Int.{to_z_pos}

@@ -1,6 +1,6 @@
 -- The workload of the tests is accepted, and has the calls that they run.
 use Rattle.std.proofs.Common.{◌≡◌, ◌≢◌, ◌<◌, ◌≤◌, ℕ, pos, ◌≤ℤ◌, List, [], ◌∷◌, ◌++◌, ◌-◌, All, refl, ap, sym, subst, ◌∙◌, arith}
-use Rattle.std.specs.Prelude.{IsSome, slice_get, codes, AllPairs}
+use Rattle.std.specs.Prelude.{codes, AllPairs}
 use Rattle.std.proofs.lemmas.List.Kept.{AllPairs-cons}
 use Rattle.homeo_syntax.specs.Key.{definitions as syntax_definitions}
 use Rattle.homeo_syntax.specs.Listed.{Listed}
@@ -9,12 +9,12 @@ use Rattle.homeo_syntax.specs.declared.token.Version.TheVariants.{First}
 use Rattle.homeo_syntax.specs.WellFormed.{IsName, EachIdent, IsBelow}
 use Rattle.homeo_meaning.specs.Key.{definitions as meaning_definitions}
 use Rattle.homeo_meaning.specs.Acceptance.{IsAccepted}
-use Rattle.homeo_meaning.specs.Calls.{CallExists, IsGroundCall}
+use Rattle.homeo_meaning.specs.Calls.{CallExists}
 use Rattle.homeo_meaning.specs.Faults.{faults}
 use Rattle.homeo_meaning.specs.declared.call.CallId.{CallId}
 use Rattle.homeo_meaning.specs.declared.call.Purpose.TheVariants.{Run}
 use Rattle.homeo_meaning.proofs.SoundRules.{all_none, all_more}
-use Rattle.homeo_plan_tests.specs.inner.Example.{sale, example}
+use Rattle.homeo_plan_tests.specs.inner.Example.{example}
 
 no_faults : faults Run example ≡ []
 unfolding meaning_definitions syntax_definitions

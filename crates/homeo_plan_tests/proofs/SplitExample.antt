@@ -1,5 +1,5 @@
 -- One command of the tests can be run, the other transformed too, and their split database folded.
-use Rattle.std.proofs.Common.{◌≡◌, ℕ, zero, suc, ◌^◌, ◌<◌, ◌≤◌, true, List, [], ◌∷◌, map, length, pos, FitsSigned, w64, sym, ap, ap₂, ◌∙◌, subst, arith}
+use Rattle.std.proofs.Common.{◌≡◌, ℕ, zero, suc, ◌^◌, ◌<◌, ◌≤◌, true, [], ◌∷◌, map, length, pos, FitsSigned, w64, sym, ap, ap₂, ◌∙◌, subst, arith}
 use Rattle.std.proofs.lemmas.Int.{fits_signed_from_abs}
 use Rattle.std.proofs.lemmas.List.{length-map}
 use Rattle.homeo_syntax.specs.Low.{Command}

@@ -1,8 +1,5 @@
 //! The plan of the first round of a workload, and that of the second, made from it.
 
-ghost use Rattle.homeo_syntax.specs.SourceView.{plain_workload};
-ghost use Rattle.homeo_meaning.specs.Schema.{schema_of};
-
 use crate::calls::first;
 use crate::same::{same, same_items};
 use crate::texts::{ONE_WRITER, TWICE, WEIGHTED, accepted};

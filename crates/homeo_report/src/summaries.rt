@@ -10,7 +10,7 @@ ghost use Rattle.homeo_report.specs.Report.{CanReport};
 ghost use Rattle.homeo_report.specs.Summary.{prints_in, prints_of, summary};
 
 use crate::objects::push_objects;
-use homeo_history::{Closing, Entry, History, Round, Segment};
+use homeo_history::{Entry, History, Round, Segment};
 use homeo_meaning::Accepted;
 use homeo_print::{ObjectNames, push_heading};
 use homeo_syntax::{Memory, Workload};

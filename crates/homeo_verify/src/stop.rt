@@ -2,7 +2,7 @@
 
 use homeo_certificate::Fault;
 use homeo_syntax::Memory;
-use std::alloc::{AllocError, AllocFailed};
+use std::alloc::AllocFailed;
 
 /// Why following a call stops.
 #[derive(Clone, Copy)]

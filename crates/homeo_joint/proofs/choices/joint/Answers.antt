@@ -1,7 +1,7 @@
 -- The error of the size is passed on, and there are as many rows as the size says.
-use Rattle.std.proofs.Common.{◌≡◌, ◌<◌, ◌≤◌, Err, map, pos, sym, ap, ◌∙◌, subst, IsErrAnd}
+use Rattle.std.proofs.Common.{◌<◌, ◌≤◌, Err, map, pos, sym, ap, ◌∙◌, subst, IsErrAnd}
 use Rattle.std.specs.List.{All}
-use Rattle.homeo_joint.specs.Counts.{plain_table, row_counts, row_limit, product_of}
+use Rattle.homeo_joint.specs.Counts.{plain_table, row_limit, product_of}
 use Rattle.homeo_joint.specs.TooMany.{IsTooMany}
 use Rattle.homeo_joint.proofs.Products.{counts_positive}
 use Rattle.homeo_joint.proofs.Blocks.{joint_count, rows_within, all_choices, counts-plain, digit_rows}

@@ -1,5 +1,5 @@
 -- The slacks can be split by these shares.
-use Rattle.std.proofs.Common.{◌≡◌, ℕ, ℤ, pos, length, sym, ap, ◌∙◌, subst, arith}
+use Rattle.std.proofs.Common.{ℕ, ℤ, pos, length, sym, ap, ◌∙◌, subst, arith}
 use Rattle.homeo_syntax.specs.Listed.{Listed}
 use Rattle.homeo_meaning.specs.Key.{definitions}
 use Rattle.homeo_plan.specs.Config.{CanShare}
