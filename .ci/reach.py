@@ -17,8 +17,9 @@ Reached are the definitions that are named in
 - the body, equations or type of a definition that is reached.
 What stands in specs/formers belongs to the type of its name. `.inner` in a path is nothing special: a definition there can be reached.
 
-What a caller has to believe is what is reached without the invariants of types: an invariant says what a crate keeps of its own
-fields, so it may name a definition of specs/inner/, and nothing else that is public may.
+What a caller has to believe is what is reached without what speaks of the fields of types that a crate keeps to itself: an
+invariant says what it keeps of them, and the view of a type that shows none how they stand for the value, of which the clauses speak.
+These may name a definition of specs/inner/, and nothing else that is public may.
 
 It is read by names, and not by the prover, so it is right to a few lines in a hundred: a variable that is spelled as an imported
 name counts as that name, of a name behind a dot only the front counts, unless that is a module, and an operator of this project's
@@ -185,8 +186,8 @@ def exported(root, crate):
 class Promise:
     """A text with clauses or ghost items, what it is of, and the imports under which it is read."""
 
-    def __init__(self, crate, owner, name, text, imports, is_invariant=False):
-        self.crate, self.owner, self.name, self.text, self.imports, self.is_invariant = crate, owner, name, text, imports, is_invariant
+    def __init__(self, crate, owner, name, text, imports, is_of_fields=False):
+        self.crate, self.owner, self.name, self.text, self.imports, self.is_of_fields = crate, owner, name, text, imports, is_of_fields
 
 
 def promises_of(root, crate):
@@ -198,6 +199,8 @@ def promises_of(root, crate):
         items = items_of(text)
         is_open = file.stem in modules or file.stem == "lib"
         imports = [head.strip() for head, _, _ in items if re.match(r"\s*ghost\s+use\b", head)]
+        structs = {re.search(r"\bstruct\s+(\w+)", head)[1]: body for head, body, _ in items if re.search(r"\bstruct\s+\w+", head)}
+        closed_structs = {name for name, body in structs.items() if not re.search(r"\bpub\s+\w+\s*:", body)}
         is_public = lambda name, head: name in names or is_open and re.search(r"\bpub\s", head)
         for head, body, clauses in items:
             if re.match(r"\s*(?:pub\s+)?(?:ghost\s+)?use\b", head):
@@ -221,10 +224,11 @@ def promises_of(root, crate):
             elif of:
                 inside = items_of(body)
                 local = Imports("\n".join(imports + [it[0].strip() for it in inside if re.match(r"\s*ghost\s+use\b", it[0])]))
-                for is_invariant in (False, True):
-                    word = "invariant" if is_invariant else "(?!use|invariant)"
+                hidden = "(?:invariant|view)" if of["type"] in closed_structs else "invariant"
+                for is_of_fields in (False, True):
+                    word = hidden if is_of_fields else f"(?!use|{hidden})"
                     ghost = " ".join(it[0] for it in inside if re.match(r"\s*(?:pub\s+)?ghost\s+" + word, it[0]))
-                    ghosts[of["type"]].append(Promise(crate, of["type"], f"impl {of['trait'] or ''}", ghost, local, is_invariant))
+                    ghosts[of["type"]].append(Promise(crate, of["type"], f"impl {of['trait'] or ''}", ghost, local, is_of_fields))
                 if of["type"] in names or of["trait"] in names or is_open:
                     for inner, _, clauses in inside:
                         method = re.search(r"\bfn\s+(\w+)", inner)
@@ -273,7 +277,7 @@ class Reach:
         """The definitions that belong to a type by their place."""
         return [it for path, module in self.modules.items() if ".specs.formers." in path for it in module.own]
 
-    def reached(self, promises, with_formers=False, with_invariants=True):
+    def reached(self, promises, with_formers=False, with_fields=True):
         """What these promises reach: each definition with the one that named it."""
         found, types, left = {}, set(), []
 
@@ -283,9 +287,9 @@ class Reach:
                 left.append((thing.text, self.modules[thing.module].imports, self.modules[thing.module], thing))
             elif isinstance(thing, tuple) and thing not in types:
                 types.add(thing)
-                left.extend((it.text, it.imports, None, by) for it in self.ghosts.get(thing, []) if with_invariants or not it.is_invariant)
+                left.extend((it.text, it.imports, None, by) for it in self.ghosts.get(thing, []) if with_fields or not it.is_of_fields)
 
-        for it in promises if with_invariants else [it for it in promises if not it.is_invariant]:
+        for it in promises if with_fields else [it for it in promises if not it.is_of_fields]:
             for thing in self.named(it.text, it.imports):
                 add(thing, it)
         for it in self.formers() if with_formers else []:
@@ -304,7 +308,7 @@ class Reach:
 
     def of_callers(self):
         """What the callers of public contracts have to believe."""
-        return self.reached(self.public, with_invariants=False)
+        return self.reached(self.public, with_fields=False)
 
 
 def lines_of(definitions):
