@@ -17,7 +17,7 @@ use homeo_syntax::{LCommand, Memory, Prints};
 ///
 /// # Errors
 ///
-/// `Memory` where memory is wanting.
+/// `Memory` when out of memory. Then what was set and printed so far may stand.
 #[cycle(runs)]
 #[tactic(auto, using(homeo_syntax::proofs::LowViews::low_command_views, crate::proofs::CommandSteps::runs))]
 pub fn run<S: Store>(c: &LCommand, state: &mut S, prints: &mut Prints) -> Result<(), Memory>

@@ -19,7 +19,7 @@ pub trait Store: Reads {
     ///
     /// # Errors
     ///
-    /// `Memory` where memory is wanting.
+    /// `Memory` when out of memory. Then nothing is told of what is set.
     fn assign(&mut self, t: Temp, v: i64) -> Result<(), Memory>
         ensures set { OnOk result (Self.values self.new ≡ put (Self.values self.old) (TempAt t) v) }
         ensures leads { OnOk result (leads_to self.old self.new) };
@@ -28,7 +28,7 @@ pub trait Store: Reads {
     ///
     /// # Errors
     ///
-    /// `Memory` where memory is wanting.
+    /// `Memory` when out of memory. Then nothing is told of what is set.
     fn write(&mut self, x: SplitName, v: i64) -> Result<(), Memory>
         requires { has_place (shape self.old) x ≡ true }
         ensures set { OnOk result (Self.values self.new ≡ put (Self.values self.old) (location_of x) v) }
