@@ -12,9 +12,8 @@ use Rattle.homeo_meaning.specs.Key.{definitions as meaning_definitions}
 use Rattle.homeo_meaning.specs.Ground.{sited_call}
 use Rattle.homeo_meaning.specs.GlobalNames.{SitedCall, sited_calls_of}
 use Rattle.homeo_meaning.specs.NumberRules.{distinct_after}
-use Rattle.homeo_ground.specs.Key.{definitions}
 use Rattle.homeo_ground.specs.Sited.{values}
-use Rattle.homeo_ground.specs.Grounding.{place_among, places_among}
+use Rattle.homeo_meaning.specs.CallPlaces.{place_among, places_among}
 use Rattle.homeo_ground.proofs.Distinct.{calls-step, places-step, clients-step, tables-step}
 
 -- a call at the site of its client
@@ -39,7 +38,7 @@ unfolding meaning_definitions
 no-calls kept = refl
 
 pub no-places : (kept : List SitedCall) → [] ≡ places_among kept []
-unfolding definitions
+unfolding meaning_definitions
 no-places kept = refl
 
 -- one more call of a client is numbered

@@ -10,8 +10,7 @@ use Rattle.homeo_syntax.specs.Source as s
 use Rattle.homeo_meaning.specs.Key.{definitions as meaning_definitions}
 use Rattle.homeo_meaning.specs.GlobalNames.{SitedCall, sited_calls_of}
 use Rattle.homeo_meaning.specs.NumberRules.{same_numbers, same_ground, distinct_after}
-use Rattle.homeo_ground.specs.Key.{definitions}
-use Rattle.homeo_ground.specs.Grounding.{place_among, places_among}
+use Rattle.homeo_meaning.specs.CallPlaces.{place_among, places_among}
 
 -- ---- a call is the same ground call as itself
 int-same : (x : ℤ) → int_eq x x ≡ true
@@ -75,7 +74,7 @@ put-there kept u = go (list_any (same_ground u) kept) refl
     go false e = any-last (same_ground u) u kept (ground-same u)
 
 pub put-place : (kept : List SitedCall) (u : SitedCall) → place_among (distinct_after kept (u ∷ [])) u ≡ place_among kept u
-unfolding meaning_definitions definitions
+unfolding meaning_definitions
 put-place kept u = go (list_any (same_ground u) kept) refl
   where
     go : (b : Bool) → list_any (same_ground u) kept ≡ b → position_or_len (same_ground u) (if b then kept else kept ++ u ∷ []) ≡ position_or_len (same_ground u) kept
@@ -89,7 +88,7 @@ distinct-append kept (u ∷ us) vs = distinct-append (if list_any (same_ground u
 
 -- a call that is there stays, and keeps its place
 pub stays : (v : SitedCall) (us kept : List SitedCall) → list_any (same_ground v) kept ≡ true → (place_among (distinct_after kept us) v ≡ place_among kept v) × (list_any (same_ground v) (distinct_after kept us) ≡ true)
-unfolding meaning_definitions definitions
+unfolding meaning_definitions
 stays v [] kept h = (refl, h)
 stays v (u ∷ us) kept h = go (λ l e. stays v us l e) (list_any (same_ground u) kept)
   where
@@ -122,7 +121,7 @@ places-stay vs [] kept h = refl
 places-stay vs (u ∷ us) kept h = λ i. (stays u vs kept h.0).0 i ∷ places-stay vs us kept h.1 i
 
 pub all-places-stay : (vs : List SitedCall) (cs : List s.Client) (kept : List SitedCall) → Known kept (flat_map sited_calls_of cs) → places_among (distinct_after kept vs) cs ≡ places_among kept cs
-unfolding definitions
+unfolding meaning_definitions
 all-places-stay vs [] kept h = refl
 all-places-stay vs (c ∷ cs) kept h =
     λ i. places-stay vs (sited_calls_of c) kept (known-first kept (sited_calls_of c) (flat_map sited_calls_of cs) h) i ∷ all-places-stay vs cs kept (known-second kept (sited_calls_of c) (flat_map sited_calls_of cs) h) i
@@ -159,7 +158,7 @@ module _ (cs : List s.Client) (c : s.Client) (old new : List SitedCall) (o : old
   all_known_in = subst (λ (l : List SitedCall). Known l (flat_map sited_calls_of cs)) (sym o) (all-known (flat_map sited_calls_of cs) [])
 
   pub tables-step : (tables : List (List ℕ)) (places : List ℕ) → tables ≡ places_among old cs → places ≡ map (place_among new) (sited_calls_of c) → tables ++ places ∷ [] ≡ places_among new (cs ++ c ∷ [])
-  unfolding definitions
+  unfolding meaning_definitions
   tables-step tables places t p =
       (λ i. (t ∙ sym (all-places-stay (sited_calls_of c) cs old all_known_in) ∙ ap (λ (l : List SitedCall). places_among l cs) (sym n)) i ++ p i ∷ [])
       ∙ sym (map-append (λ (client : s.Client). map (place_among new) (sited_calls_of client)) cs (c ∷ []))

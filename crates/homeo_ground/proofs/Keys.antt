@@ -8,10 +8,9 @@ use Rattle.std.proofs.lemmas.List.{map-append}
 use Rattle.homeo_meaning.specs.Key.{definitions as meaning_definitions}
 use Rattle.homeo_meaning.specs.GlobalNames as g
 use Rattle.homeo_meaning.specs.NumberRules.{same_numbers, same_ground, distinct_after}
-use Rattle.homeo_ground.specs.Key.{definitions}
 use Rattle.homeo_ground.specs.Sited.{sited}
 use Rattle.homeo_ground.specs.inner.Keys.{unplaced, call_of}
-use Rattle.homeo_ground.specs.Grounding.{place_among}
+use Rattle.homeo_meaning.specs.CallPlaces.{place_among}
 use Rattle.homeo_ground.specs.declared.key.Key.{Key}
 use Rattle.homeo_ground.specs.declared.sited.SitedCall.{SitedCall}
 
@@ -66,7 +65,7 @@ module _ (ks : List Key) (cs : List SitedCall) (k : Key) (c : SitedCall) (keys :
   there = any-keys k ks ∙ (λ i. list_any (same_ground (key i)) (keys i)) ∙ any-unplaced (sited c) (map sited cs)
 
   pub place-is : position_or_len (same_key k) ks ≡ place_among (map sited cs) (sited c)
-  unfolding definitions
+  unfolding meaning_definitions
   place-is = place-keys k ks ∙ (λ i. position_or_len (same_ground (key i)) (keys i)) ∙ place-unplaced (sited c) (map sited cs)
 
   pub absent : false ≡ list_any (same_key k) ks → list_any (same_ground (sited c)) (map sited cs) ≡ false

@@ -22,7 +22,8 @@ use Rattle.homeo_meaning.specs.Schema.{nat_of}
 use Rattle.homeo_meaning.specs.Serial.{numbered}
 use Rattle.homeo_ground.specs.Key.{definitions}
 use Rattle.homeo_ground.specs.Table.{GroundTable}
-use Rattle.homeo_ground.specs.Grounding.{place_among, places_among, grounding, IsCallIn}
+use Rattle.homeo_meaning.specs.CallPlaces.{place_among, places_among}
+use Rattle.homeo_ground.specs.Grounding.{grounding, IsCallIn}
 use Rattle.homeo_ground.proofs.Distinct.{Known, all-known, known-first, known-second}
 
 -- ---- calls that are the same ground call have one ground call
@@ -59,7 +60,7 @@ ground-is w u v h =
 -- what stands at a call's place
 module _ (w : s.Workload) (u : SitedCall) where
   there : (kept : List SitedCall) → list_any (same_ground u) kept ≡ true → slice_get (map (ground_of_sited w) kept) (place_among kept u) ≡ Some (ground_of_sited w u)
-  unfolding definitions
+  unfolding meaning_definitions
   there [] h = absurd (false≢true h)
   there (k ∷ kept) h = go (same_ground u k) refl h (there kept)
     where
@@ -118,7 +119,7 @@ record IsPlaced (places : List (List ℕ)) (id : CallId) : Type 0 where
   within : id.seq - 1 < length list
 
 is_placed : (w : s.Workload) (id : CallId) → CallExists w id → IsPlaced (places_among (ground_calls w) w.clients) id
-unfolding definitions meaning_definitions
+unfolding meaning_definitions
 is_placed w id h =
     let c = client_of w id h in
     let k = numbered_some id.seq c.0.calls c.2 in
@@ -149,7 +150,7 @@ record StandsAt (w : s.Workload) (id : CallId) (place : ℕ) : Type 0 where
   within : place < length (grounds w)
 
 stands : (w : s.Workload) (id : CallId) (list : List ℕ) (place : ℕ) → slice_get (places_among (ground_calls w) w.clients) id.client ≡ Some list → 1 ≤ id.seq → slice_get list (id.seq - 1) ≡ Some place → StandsAt w id place
-unfolding definitions meaning_definitions
+unfolding meaning_definitions
 stands w id list place e k q =
     let kept : List SitedCall = ground_calls w in
     let row : s.Client → List ℕ = λ (client : s.Client). map (place_among (ground_calls w)) (sited_calls_of client) in
@@ -167,14 +168,14 @@ abbrev rows : List (Vec ℕ Global) → List (List ℕ)
 rows vs = map (λ (v : Vec ℕ Global). v.items) vs
 
 table_places : (g : GroundTable) (w : s.Workload) → g ≡ grounding w → g.places ≡ places_among (ground_calls w) w.clients
-unfolding definitions
+unfolding definitions meaning_definitions
 table_places g w e = ap (λ (g : GroundTable). g.places) e
 
 table_calls : (g : GroundTable) (w : s.Workload) → g ≡ grounding w → g.calls ≡ grounds w
 unfolding definitions
 table_calls g w e = ap (λ (g : GroundTable). g.calls) e
 
-row_at : (vs : List (Vec ℕ Global)) (i : ℕ) (v : Vec ℕ Global) → i < length vs → v ≡ get_or vs i v → slice_get (rows vs) i ≡ Some v.items
+pub row_at : (vs : List (Vec ℕ Global)) (i : ℕ) (v : Vec ℕ Global) → i < length vs → v ≡ get_or vs i v → slice_get (rows vs) i ≡ Some v.items
 row_at vs i v h e = slice_get-map (λ (v : Vec ℕ Global). v.items) vs i ∙ ap (option_map (λ (v : Vec ℕ Global). v.items)) (slice_get_read vs (length vs) i v refl h e)
 
 module _ (g : GroundTable) (id : CallId) (vs : List (Vec ℕ Global)) (view : rows vs ≡ g.places) (made : IsCallIn g id) where

@@ -17,7 +17,8 @@ use Rattle.homeo_meaning.proofs.SoundRules.{all_none, all_more, all_head, all_ta
 use Rattle.homeo_ground.specs.Key.{definitions}
 use Rattle.homeo_ground.specs.Sited.{sited}
 use Rattle.homeo_ground.specs.inner.Grounds.{ground_by, IsSite}
-use Rattle.homeo_ground.specs.Grounding.{places_among, grounding}
+use Rattle.homeo_meaning.specs.CallPlaces.{places_among, call_places}
+use Rattle.homeo_ground.specs.Grounding.{grounding}
 use Rattle.homeo_ground.specs.declared.sited.SitedCall.{SitedCall as Held}
 use Rattle.homeo_ground.proofs.Limits.{limited}
 
@@ -25,12 +26,8 @@ all_unmapped : {A B : Type 0} (f : A → B) (P : B → Type 0) (xs : List A) →
 all_unmapped {A} f P [] h = let Q : A → Type 0 = λ x. P (f x) in all_none Q
 all_unmapped {A} f P (x ∷ xs) h = let Q : A → Type 0 = λ x. P (f x) in all_more Q x xs (all_head P (f x) (map f xs) h) (all_unmapped f P xs (all_tail P (f x) (map f xs) h))
 
--- the workload, its clients in the code, the places of its names, and the distinct calls in the code
-module _ (workload : Workload) (accepted : IsAccepted (plain_workload workload)) (clients : List Client) (of : clients ≡ workload.clients.items) (names : Declarations) (named : names ≡ declarations (plain_workload workload)) (calls : List Held) (distinct : map sited calls ≡ distinct_after [] (flat_map sited_calls_of (map plain_client clients))) where
-  calls_are : map sited calls ≡ ground_calls (plain_workload workload)
-  unfolding meaning_definitions syntax_definitions
-  calls_are = distinct ∙ ap (λ (l : List Client). distinct_after [] (flat_map sited_calls_of (map plain_client l))) of
-
+-- the workload, the places of its names, and the distinct calls in the code
+module _ (workload : Workload) (accepted : IsAccepted (plain_workload workload)) (names : Declarations) (named : names ≡ declarations (plain_workload workload)) (calls : List Held) (calls_are : map sited calls ≡ ground_calls (plain_workload workload)) where
   pub have_sites : All (λ (c : Held). IsSite c.site) calls
   have_sites =
       all_unmapped sited (λ (c : SitedCall). IsSite c.site) calls (subst (All (λ (c : SitedCall). IsSite c.site)) (sym calls_are) (limited (plain_workload workload) accepted).sites)
@@ -48,13 +45,9 @@ module _ (workload : Workload) (accepted : IsAccepted (plain_workload workload))
         same ∙ ap (λ (d : Declarations). map (ground_by d.transactions) (map sited calls)) named
         ∙ ap (map (ground_of_sited (plain_workload workload))) calls_are
 
-    pub is_grounding : (places : List (List ℕ)) → places ≡ places_among (map sited calls) (map plain_client clients) → record { calls = made; places = places } ≡ grounding (plain_workload workload)
-    unfolding definitions syntax_definitions
-    is_grounding places p =
-        let row : places ≡ places_among (ground_calls (plain_workload workload)) (map plain_client workload.clients.items) =
-        p ∙ ap (λ (l : List SitedCall). places_among l (map plain_client clients)) calls_are
-        ∙ ap (λ (l : List Client). places_among (ground_calls (plain_workload workload)) (map plain_client l)) of in
-        λ i. record { calls = are_grounds i; places = row i }
+    pub is_grounding : (places : List (List ℕ)) → places ≡ call_places (plain_workload workload) → record { calls = made; places = places } ≡ grounding (plain_workload workload)
+    unfolding definitions
+    is_grounding places p = λ i. record { calls = are_grounds i; places = p i }
 
   pub calls_fit : (made : List GroundCall) → map plain_ground made ≡ map (ground_by names.transactions) (map sited calls) → length made < 2 ^ 32
   calls_fit made same =
@@ -62,3 +55,13 @@ module _ (workload : Workload) (accepted : IsAccepted (plain_workload workload))
       let e : length made ≡ length (map sited calls) = sym (length-map made plain_ground) ∙ ap (λ (l : List Ground). length l) same ∙ length-map (map sited calls) (ground_by names.transactions) in
       let f : length (map sited calls) ≡ length (ground_calls (plain_workload workload)) = ap (λ (l : List SitedCall). length l) calls_are in
       omega arith
+
+-- the clients in the code are the workload's
+module _ (workload : Workload) (clients : List Client) (of : clients ≡ workload.clients.items) where
+  pub their_calls : distinct_after [] (flat_map sited_calls_of (map plain_client clients)) ≡ ground_calls (plain_workload workload)
+  unfolding meaning_definitions syntax_definitions
+  their_calls = ap (λ (l : List Client). distinct_after [] (flat_map sited_calls_of (map plain_client l))) of
+
+  pub their_places : places_among (distinct_after [] (flat_map sited_calls_of (map plain_client clients))) (map plain_client clients) ≡ call_places (plain_workload workload)
+  unfolding meaning_definitions syntax_definitions
+  their_places = ap (λ (l : List Client). places_among (distinct_after [] (flat_map sited_calls_of (map plain_client l))) (map plain_client l)) of

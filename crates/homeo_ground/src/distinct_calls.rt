@@ -3,7 +3,7 @@
 ghost use Rattle.std.specs.Prelude.{◌≡◌, [], ◌∷◌, false, IfOk, OnOk};
 ghost use Rattle.std.specs.List.{list_any};
 ghost use Rattle.homeo_meaning.specs.NumberRules.{same_ground, distinct_after};
-ghost use Rattle.homeo_ground.specs.Grounding.{place_among};
+ghost use Rattle.homeo_meaning.specs.CallPlaces.{place_among};
 ghost use Rattle.homeo_ground.specs.Sited.{sited};
 ghost use Rattle.homeo_ground.specs.inner.Keys.{sited_all, AreKeys};
 

@@ -4,16 +4,20 @@ ghost use Rattle.std.specs.Prelude.{◌≡◌, ◌<◌, ◌^◌, All, length, ma
 ghost use Rattle.homeo_syntax.specs.Source as s;
 ghost use Rattle.homeo_syntax.specs.SourceView.{plain_workload};
 ghost use Rattle.homeo_meaning.specs.Declarations.{declarations};
+ghost use Rattle.homeo_meaning.specs.Acceptance.{IsAccepted};
+ghost use Rattle.homeo_meaning.specs.CallPlaces.{call_places};
 ghost use Rattle.homeo_meaning.specs.Ground.{plain_ground, grounds, ground_of};
+ghost use Rattle.homeo_meaning.specs.NumberRules.{ground_calls};
 ghost use Rattle.homeo_ground.specs.Grounding.{grounding, IsCallIn, IsCalled};
 ghost use Rattle.homeo_ground.specs.Sited.{sited};
 ghost use Rattle.homeo_ground.specs.inner.Grounds.{ground_by, IsSite};
 
-use crate::numbering::number_clients;
+use crate::firsts::first_calls;
+use crate::numbering::{Numbered, number_clients};
 use crate::sited::{SitedCall, ground_call};
 use homeo_context::Declarations;
 use homeo_meaning::{Accepted, CallId, GroundCall};
-use homeo_syntax::Memory;
+use homeo_syntax::{Memory, Workload};
 use std::alloc::Global;
 use std::marker::Model;
 
@@ -40,7 +44,7 @@ impl Model for Grounding {
 }
 
 /// The ground calls of calls, each with its transaction by its number.
-fn ground_calls(
+fn made_calls(
     alloc: Global,
     numbering: &Declarations,
     calls: &[SitedCall<'_>],
@@ -58,6 +62,28 @@ fn ground_calls(
 }
 
 impl Grounding {
+    /// The grounding of a workload, made of its numbered calls.
+    fn of_numbered(
+        alloc: Global,
+        w: &Workload,
+        declared: &Declarations,
+        numbered: Numbered<'_>,
+    ) -> Result<Grounding, Memory>
+        requires accepted { IsAccepted (plain_workload w.now) }
+        requires declared { declared.now ≡ declarations (plain_workload w.now) }
+        requires calls { map sited numbered.calls.items ≡ ground_calls (plain_workload w.now) }
+        requires places { map (λ row. row.items) numbered.places.items ≡ call_places (plain_workload w.now) }
+        ensures table { IfOk result (λ g. g ≡ grounding (plain_workload w.now)) }
+        ensures calls { IfOk result (λ g. g.calls ≡ grounds (plain_workload w.now)) }
+        ensures called { IfOk result (λ g. All (IsCalled (plain_workload w.now)) g.calls) }
+    {
+        let calls = made_calls(alloc, declared, numbered.calls.as_slice())?;
+        Ok(Grounding {
+            calls,
+            places: numbered.places,
+        })
+    }
+
     /// Finds the distinct ground calls of a workload, in about the time that its calls and their
     /// arguments take. `declared` has the places of the workload's names.
     ///
@@ -70,12 +96,32 @@ impl Grounding {
         ensures calls { IfOk result (λ g. g.calls ≡ grounds (plain_workload w.now)) }
         ensures called { IfOk result (λ g. All (IsCalled (plain_workload w.now)) g.calls) }
     {
-        let numbered = number_clients(alloc, w.workload().clients.as_slice())?;
-        let calls = ground_calls(alloc, declared, numbered.calls.as_slice())?;
-        Ok(Grounding {
-            calls,
-            places: numbered.places,
-        })
+        let workload = w.workload();
+        let numbered = number_clients(alloc, workload.clients.as_slice())?;
+        Grounding::of_numbered(alloc, workload, declared, numbered)
+    }
+
+    /// As `of`, where the places of the calls are known, as acceptance found them: by client, where each call's ground call stands
+    /// among the distinct ones. No call is looked up.
+    ///
+    /// # Errors
+    ///
+    /// `Memory` when out of memory.
+    pub fn with_places(
+        alloc: Global,
+        w: &Accepted,
+        declared: &Declarations,
+        places: Vec<Vec<usize>>,
+    ) -> Result<Grounding, Memory>
+        requires declared { declared.now ≡ declarations (plain_workload w.now) }
+        requires places { map (λ row. row.items) places.items ≡ call_places (plain_workload w.now) }
+        ensures table { IfOk result (λ g. g ≡ grounding (plain_workload w.now)) }
+        ensures calls { IfOk result (λ g. g.calls ≡ grounds (plain_workload w.now)) }
+        ensures called { IfOk result (λ g. All (IsCalled (plain_workload w.now)) g.calls) }
+    {
+        let workload = w.workload();
+        let calls = first_calls(alloc, workload.clients.as_slice(), places.as_slice())?;
+        Grounding::of_numbered(alloc, workload, declared, Numbered { calls, places })
     }
 
     /// Lends the distinct ground calls, each where it is first called: clients in order, and the

@@ -2,6 +2,7 @@
 #![tactic(auto)]
 
 mod distinct_calls;
+mod firsts;
 mod grounding;
 mod key;
 mod numbering;

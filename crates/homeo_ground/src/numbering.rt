@@ -5,7 +5,7 @@ ghost use Rattle.std.specs.List.{flat_map};
 ghost use Rattle.homeo_syntax.specs.SourceView.{plain_client};
 ghost use Rattle.homeo_meaning.specs.GlobalNames.{sited_calls_of};
 ghost use Rattle.homeo_meaning.specs.NumberRules.{distinct_after};
-ghost use Rattle.homeo_ground.specs.Grounding.{place_among, places_among};
+ghost use Rattle.homeo_meaning.specs.CallPlaces.{place_among, places_among};
 ghost use Rattle.homeo_ground.specs.Sited.{sited};
 ghost use Rattle.homeo_ground.specs.inner.Keys.{sited_all, AreKeys};
 
@@ -39,12 +39,7 @@ fn number_client<'a>(
     let calls = client.calls.as_slice();
     let mut places = Vec::with_capacity(alloc, calls.len())?;
     for call in calls {
-        let call = SitedCall {
-            name: call.name,
-            args: call.args.as_slice(),
-            site: client.site.value,
-        };
-        let place = distinct.put(alloc, call)?;
+        let place = distinct.put(alloc, SitedCall::of(client, call))?;
         places.push(place)?;
     }
     Ok(places)

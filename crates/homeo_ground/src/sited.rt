@@ -1,13 +1,14 @@
 //! Calls with their arguments and sites.
 
 ghost use Rattle.std.specs.Prelude.{◌≡◌, ◌<◌, ◌^◌, length, map, IfOk, OnOk};
-ghost use Rattle.homeo_meaning.specs.Ground.{plain_ground};
+ghost use Rattle.homeo_syntax.specs.SourceView.{plain_call, plain_client};
+ghost use Rattle.homeo_meaning.specs.Ground.{plain_ground, sited_call};
 ghost use Rattle.homeo_ground.specs.Sited.{sited, values};
 ghost use Rattle.homeo_ground.specs.inner.Grounds.{ground_by, IsSite};
 
 use homeo_context::Declarations;
 use homeo_meaning::GroundCall;
-use homeo_syntax::{Ident, List, Memory, Number};
+use homeo_syntax::{Call, Client, Ident, List, Memory, Number};
 use std::alloc::Global;
 
 /// A call's name, its arguments, and the site of its client.
@@ -19,6 +20,19 @@ pub struct SitedCall<'a> {
     pub args: &'a [Number],
     /// The number of the site, from 0.
     pub site: i64,
+}
+
+impl<'a> SitedCall<'a> {
+    /// A call of a client, at its site.
+    pub fn of(client: &'a Client, call: &'a Call) -> SitedCall<'a>
+        ensures { sited result ≡ sited_call (plain_client client.now) (plain_call call.now) }
+    {
+        SitedCall {
+            name: call.name,
+            args: call.args.as_slice(),
+            site: client.site.value,
+        }
+    }
 }
 
 /// The values of numbers.

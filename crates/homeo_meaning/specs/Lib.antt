@@ -3,6 +3,7 @@ pub mod Acceptance
 pub mod Bindings
 pub mod Bounds
 pub mod CallForm
+pub mod CallPlaces
 pub mod CallRules
 pub mod Calls
 pub mod Computed

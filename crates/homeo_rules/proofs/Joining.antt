@@ -17,6 +17,7 @@ use Rattle.homeo_syntax.specs.declared.workload.Workload.{Workload}
 use Rattle.homeo_meaning.specs.Key.{definitions as meaning_definitions}
 use Rattle.homeo_meaning.specs.Bindings.{Scope}
 use Rattle.homeo_meaning.specs.TransactionRules.{each}
+use Rattle.homeo_meaning.specs.CallPlaces.{places_among, call_places}
 use Rattle.homeo_meaning.specs.GlobalNames.{GlobalName, numbered_from, global_names, duplicate, field_names, scope_of, sited_calls, sited_calls_of}
 use Rattle.homeo_meaning.specs.NumberRules.{object_faults, site_weight_faults, site_count_faults, slot_faults, object_making, relation_making, makings, too_many_objects, passes_limit, limit_faults, distinct_after, ground_calls}
 use Rattle.homeo_meaning.specs.CallRules.{client_faults, schedule_faults}
@@ -217,6 +218,14 @@ pub grounds-are : (w : Workload) (grounds : List SitedCall) (cs : List Client)
     → map sited grounds ≡ distinct_after [] (flat_map sited_calls_of (map plain_client cs)) → cs ≡ w.clients.items → map sited grounds ≡ ground_calls (plain_workload w)
 unfolding meaning_definitions syntax_definitions
 grounds-are w grounds cs e ec = e ∙ ap (λ l. distinct_after [] (flat_map sited_calls_of (map plain_client l))) ec
+
+-- the places of the clients' calls among them are those of the calls
+pub places-are : (w : Workload) (places : List (List ℕ)) (grounds : List SitedCall) (cs : List Client)
+    → map sited grounds ≡ distinct_after [] (flat_map sited_calls_of (map plain_client cs)) → places ≡ places_among (map sited grounds) (map plain_client cs) → cs ≡ w.clients.items → places ≡ call_places (plain_workload w)
+unfolding meaning_definitions syntax_definitions
+places-are w places grounds cs e p ec =
+    p ∙ ap (λ l. places_among l (map plain_client cs)) (grounds-are w grounds cs e ec)
+    ∙ ap (λ l. places_among (ground_calls (plain_workload w)) (map plain_client l)) ec
 
 -- ---- the names of what is read
 pub order-named : (w : Workload) (n : ℕ) → IsWellFormed (plain_workload w) → n ≡ length w.names.items → InSchedule (IsBelow n) (plain_schedule w.schedule)

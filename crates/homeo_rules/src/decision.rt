@@ -4,6 +4,7 @@ ghost use Rattle.std.specs.Prelude.{◌≡◌, None, map, IfOk};
 ghost use Rattle.homeo_syntax.specs.SourceView.{plain_workload};
 ghost use Rattle.homeo_syntax.specs.WellFormed.{IsWellFormed};
 ghost use Rattle.homeo_rules.specs.inner.Deciding.{keep_all};
+ghost use Rattle.homeo_meaning.specs.CallPlaces.{call_places};
 ghost use Rattle.homeo_meaning.specs.GlobalNames.{scope_of, sited_calls};
 ghost use Rattle.homeo_meaning.specs.NumberRules.{ground_calls, limit_faults};
 ghost use Rattle.homeo_meaning.specs.CallRules.{schedule_faults};
@@ -161,22 +162,30 @@ fn with_calls(
     }
 }
 
-/// The fault that decides, with the scope of the global names and the fault that decides among theirs.
+/// The fault that decides, if there is one, and by client the places of the calls among the ground calls.
+#[derive(Drop)]
+pub(crate) struct Decision {
+    pub fault: Option<Fault>,
+    pub places: Vec<Vec<usize>>,
+}
+
+/// The decision, with the scope of the global names and the fault that decides among theirs.
 fn in_scope(
     alloc: Global,
     purpose: Purpose,
     w: &Workload,
     scope: &Scope<'_>,
     best: Option<Fault>,
-) -> Result<Option<Fault>, Memory>
+) -> Result<Decision, Memory>
     requires formed { IsWellFormed (plain_workload w.now) }
     requires names { scope_in scope.now ≡ scope_of (plain_workload w.now) }
     requires best { best ≡ name_fault (plain_workload w.now) }
-    ensures { IfOk result (λ b. b ≡ keep_all None (faults purpose (plain_workload w.now))) }
+    ensures fault { IfOk result (λ d. d.fault ≡ keep_all None (faults purpose (plain_workload w.now))) }
+    ensures places { IfOk result (λ d. map (λ row. row.items) d.places.items ≡ call_places (plain_workload w.now)) }
 {
     let calls = sited_calls(alloc, w.clients.as_slice())?;
     let numbered = number_clients(alloc, w.clients.as_slice())?;
-    with_calls(
+    let fault = with_calls(
         alloc,
         purpose,
         w,
@@ -184,13 +193,18 @@ fn in_scope(
         calls.as_slice(),
         numbered.calls.as_slice(),
         best,
-    )
+    )?;
+    Ok(Decision {
+        fault,
+        places: numbered.places,
+    })
 }
 
-/// The fault that decides, if there is one.
-pub(crate) fn decide(alloc: Global, purpose: Purpose, w: &Workload) -> Result<Option<Fault>, Memory>
+/// The fault that decides, if there is one, and the places of the calls.
+pub(crate) fn decide(alloc: Global, purpose: Purpose, w: &Workload) -> Result<Decision, Memory>
     requires { IsWellFormed (plain_workload w.now) }
-    ensures { IfOk result (λ b. b ≡ keep_all None (faults purpose (plain_workload w.now))) }
+    ensures fault { IfOk result (λ d. d.fault ≡ keep_all None (faults purpose (plain_workload w.now))) }
+    ensures places { IfOk result (λ d. map (λ row. row.items) d.places.items ≡ call_places (plain_workload w.now)) }
 {
     let items = global_names(alloc, w)?;
     let fields = FieldTable::of(alloc, w.relations.as_slice())?;

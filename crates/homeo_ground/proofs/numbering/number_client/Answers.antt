@@ -1,7 +1,6 @@
 -- The calls so far are distinct, each with its place.
-use Rattle.std.proofs.Common.{rules}
 use Rattle.homeo_ground.specs.inner.Keys.{sited_all}
-use Rattle.homeo_ground.proofs.Calls.{sited-is, no-calls, client_calls-step, client_places-step, client_calls-whole, client_places-whole}
+use Rattle.homeo_ground.proofs.Calls.{no-calls, client_calls-step, client_places-step, client_calls-whole, client_places-whole}
 use Rattle.homeo_ground.proofs.numbering.number_client.Goals as goal
 
 pub loop-call-init : goal.loop-call-init
@@ -12,7 +11,7 @@ loop-call-preserved c =
     let client = c.args.client.now in
     let calls = c.as_slice-calls.result.now in
     let item = c.call-item.result in
-    let is = sited-is client item c.as_slice.result.now _ c.as_slice.ensures (search rules) in
+    let is = c.of.ensures in
     let so_far = c.loop-call.invariant in
     let put = c.in_ok-place.ensures in
     let made = c.in_ok-push.ensures.items in

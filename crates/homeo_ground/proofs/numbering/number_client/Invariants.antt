@@ -1,7 +1,7 @@
 -- The loop of `number_client`.
 use Rattle.std.proofs.Common.{◌≡◌, map, take}
 use Rattle.homeo_meaning.specs.NumberRules.{distinct_after}
-use Rattle.homeo_ground.specs.Grounding.{place_among}
+use Rattle.homeo_meaning.specs.CallPlaces.{place_among}
 use Rattle.homeo_ground.specs.inner.Keys.{sited_all, AreKeys}
 use Rattle.homeo_ground.proofs.Calls.{sited_at}
 use Rattle.homeo_ground.proofs.numbering.number_client.Given as goal

@@ -4,7 +4,7 @@ use Rattle.std.specs.List.{flat_map}
 use Rattle.homeo_syntax.specs.SourceView.{plain_client}
 use Rattle.homeo_meaning.specs.GlobalNames.{sited_calls_of}
 use Rattle.homeo_meaning.specs.NumberRules.{distinct_after}
-use Rattle.homeo_ground.specs.Grounding.{places_among}
+use Rattle.homeo_meaning.specs.CallPlaces.{places_among}
 use Rattle.homeo_ground.specs.inner.Keys.{sited_all, AreKeys}
 use Rattle.homeo_ground.proofs.numbering.number_each.Given as goal
 

@@ -1,6 +1,6 @@
 -- The call that is put last is the first of its ground call.
 use Rattle.std.proofs.Common.{false, ap, ◌∙◌, sym}
-use Rattle.homeo_ground.specs.Grounding.{place_among}
+use Rattle.homeo_meaning.specs.CallPlaces.{place_among}
 use Rattle.homeo_ground.specs.Sited.{sited}
 use Rattle.homeo_ground.specs.inner.Keys.{sited_all}
 use Rattle.homeo_ground.proofs.Distinct.{put-place}

@@ -1,31 +1,14 @@
--- The ground calls are those of the workload.
-use Rattle.std.proofs.Common.{All, ap, ◌∙◌, sym, map, subst}
-use Rattle.homeo_syntax.specs.SourceView.{plain_client, plain_workload}
-use Rattle.homeo_ground.specs.Grounding.{places_among, IsCalled}
-use Rattle.homeo_ground.specs.Sited.{sited}
-use Rattle.homeo_ground.proofs.Called.{are_called}
-use Rattle.homeo_ground.proofs.Whole.{have_sites, are_few, are_grounds, is_grounding, calls_fit}
+-- The numbered calls are those of the workload.
+use Rattle.std.proofs.Common.{◌∙◌, ap, map}
+use Rattle.homeo_syntax.specs.SourceView.{plain_client}
+use Rattle.homeo_meaning.specs.CallPlaces.{places_among}
+use Rattle.homeo_ground.proofs.Whole.{their_calls, their_places}
 use Rattle.homeo_ground.proofs.grounding.Grounding.of.Goals as goal
 
-pub ground_calls-requires-clause-sites : goal.ground_calls-requires-clause-sites
-ground_calls-requires-clause-sites c =
-    have_sites c.args.w.now c.workload.ensures.accepted c.as_slice.result.now (c.as_slice.ensures ∙ ap (λ w. w.clients.items) c.workload.ensures.value) c.args.declared.now c.requires c.as_slice-2.result.now (ap (map sited) c.as_slice-2.ensures.value ∙ c.in_ok-numbered.ensures.calls)
+pub of_numbered-requires-clause-calls : goal.of_numbered-requires-clause-calls
+of_numbered-requires-clause-calls c = c.in_ok-numbered.ensures.calls ∙ their_calls c.workload-workload.result.now c.as_slice.result.now c.as_slice.ensures
 
-pub ground_calls-requires-clause-few : goal.ground_calls-requires-clause-few
-ground_calls-requires-clause-few c =
-    are_few c.args.w.now c.workload.ensures.accepted c.as_slice.result.now (c.as_slice.ensures ∙ ap (λ w. w.clients.items) c.workload.ensures.value) c.args.declared.now c.requires c.as_slice-2.result.now (ap (map sited) c.as_slice-2.ensures.value ∙ c.in_ok-numbered.ensures.calls)
-
-pub invariant_of-result : goal.invariant_of-result
-invariant_of-result c =
-    calls_fit c.args.w.now c.workload.ensures.accepted c.as_slice.result.now (c.as_slice.ensures ∙ ap (λ w. w.clients.items) c.workload.ensures.value) c.args.declared.now c.requires c.as_slice-2.result.now (ap (map sited) c.as_slice-2.ensures.value ∙ c.in_ok-numbered.ensures.calls) c.in_ok-calls.calls.items c.in_ok-calls.ensures
-
-pub returns-clause-table : goal.returns-clause-table
-returns-clause-table c =
-    is_grounding c.args.w.now c.workload.ensures.accepted c.as_slice.result.now (c.as_slice.ensures ∙ ap (λ w. w.clients.items) c.workload.ensures.value) c.args.declared.now c.requires c.as_slice-2.result.now (ap (map sited) c.as_slice-2.ensures.value ∙ c.in_ok-numbered.ensures.calls) _ c.in_ok-calls.ensures _ (c.in_ok-numbered.ensures.places ∙ ap (λ ks. places_among (map sited ks) (map plain_client c.as_slice.result.now)) (sym c.as_slice-2.ensures.value))
-
-pub returns-clause-calls : goal.returns-clause-calls
-returns-clause-calls c =
-    are_grounds c.args.w.now c.workload.ensures.accepted c.as_slice.result.now (c.as_slice.ensures ∙ ap (λ w. w.clients.items) c.workload.ensures.value) c.args.declared.now c.requires c.as_slice-2.result.now (ap (map sited) c.as_slice-2.ensures.value ∙ c.in_ok-numbered.ensures.calls) _ c.in_ok-calls.ensures
-
-pub returns-clause-called : goal.returns-clause-called
-returns-clause-called c = subst (All (IsCalled (plain_workload c.args.w.now))) (sym (returns-clause-calls c)) (are_called (plain_workload c.args.w.now) c.workload.ensures.accepted)
+pub of_numbered-requires-clause-places : goal.of_numbered-requires-clause-places
+of_numbered-requires-clause-places c =
+    c.in_ok-numbered.ensures.places ∙ ap (λ calls. places_among calls (map plain_client c.as_slice.result.now)) c.in_ok-numbered.ensures.calls
+    ∙ their_places c.workload-workload.result.now c.as_slice.result.now c.as_slice.ensures
