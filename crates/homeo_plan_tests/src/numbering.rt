@@ -1,7 +1,9 @@
 //! The distinct ground calls of clients, and which of them each call is.
 
 use crate::same::same_items;
-use homeo_ground::number_clients;
+use crate::texts::{WEIGHTED, accepted};
+use homeo_context::Declarations;
+use homeo_ground::{Grounding, number_clients};
 use homeo_syntax::{Call, Client, Ident, List, Number};
 use std::alloc::Global;
 use std::process::Abort;
@@ -76,4 +78,32 @@ fn calls_have_places_in_first_seen_order(rt: HostRuntime) {
     same_items(&rt, offsets.as_slice(), [10, 20, 40, 50, 70].as_slice());
     drop(numbered);
     drop(clients);
+}
+
+#[test]
+fn acceptance_hands_the_places_of_calls_on_once(rt: HostRuntime) {
+    let alloc = rt.alloc();
+    let mut w = accepted(&rt, alloc, WEIGHTED);
+    let places = w.take_places().expect(&rt, "places");
+    assert!(rt; w.take_places().is_none());
+    match places.as_slice() {
+        [first, second] => {
+            same_items(&rt, first.as_slice(), [0, 0, 0].as_slice());
+            same_items(&rt, second.as_slice(), [1].as_slice());
+        }
+        _ => panic!(rt; "two clients"),
+    }
+    let declared = Declarations::of(alloc, &w).expect(&rt, "memory");
+    let grounding = Grounding::with_places(alloc, &w, &declared, places).expect(&rt, "memory");
+    match grounding.calls() {
+        [first, second] => {
+            assert!(rt; first.site == 0 && second.site == 1);
+            same_items(&rt, first.args.as_slice(), [1].as_slice());
+            same_items(&rt, second.args.as_slice(), [1].as_slice());
+        }
+        _ => panic!(rt; "two ground calls"),
+    }
+    drop(grounding);
+    drop(declared);
+    drop(w);
 }
