@@ -56,3 +56,20 @@ pub(crate) fn copy_to_all(alloc: Global, prints: &[i64], copies: &mut List<Print
     }
     *copies = List::from_vec(lists);
 }
+
+/// The prints in a list without room to spare, where there are copies of them, which have none: the first copy, whose place the list
+/// takes. It takes no memory.
+pub(crate) fn without_room(alloc: Global, prints: Prints, copies: &mut List<Prints>) -> Prints
+    requires { All (λ copy. copy.items ≡ prints.items) copies.old.items }
+    ensures prints { result.items ≡ prints.items }
+    ensures count { length copies.new.items ≡ length copies.old.items }
+    ensures copies { All (λ copy. copy.items ≡ prints.items) copies.new.items }
+{
+    let mut lists = mem::replace(copies, List::new(alloc)).into_vec();
+    let mut kept = prints;
+    if !lists.is_empty() {
+        kept = mem::replace(&mut lists[0], kept);
+    }
+    *copies = List::from_vec(lists);
+    kept
+}

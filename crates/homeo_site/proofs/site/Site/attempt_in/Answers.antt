@@ -52,8 +52,8 @@ returns-clause-outcome c =
     c.as_slice.ensures (c.as_slice-2.ensures.value ∙ c.into_vec-deltas.ensures) c.requires.room.written)
     c.failure-failure.result c.failure-failure.ensures)
     ∙ c.in-None.is)
-    refl (ap (λ (l : Listed ℤ). l.items) c.from_vec.ensures ∙ c.into_vec-deltas.ensures ∙ c.requires.room.deltas) c.requires.room.prints
+    refl (ap (λ (l : Listed ℤ). l.items) c.from_vec.ensures ∙ c.into_vec-deltas.ensures ∙ c.requires.room.deltas) (c.without_room.ensures.prints ∙ c.requires.room.prints)
 
 pub returns-clause-answers : goal.returns-clause-answers
 unfolding definitions
-returns-clause-answers c k d lt = c.copy_to_all.ensures.copied k d lt ∙ c.as_slice-in-None.ensures
+returns-clause-answers c k d lt = c.without_room.ensures.copies k d lt ∙ sym c.without_room.ensures.prints
