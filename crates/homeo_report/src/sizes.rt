@@ -10,14 +10,16 @@ ghost use Rattle.homeo_report.specs.Summary.{prints_in, prints_of};
 use homeo_history::{Entry, History, Round, Segment};
 use homeo_syntax::{Memory, Workload};
 
-/// The bytes that most reports have for a call or an object, for a site in a round, and for the other lines of a round; and those that a
-/// print has at least.
+/// The bytes that the line of a call, beside what it prints, and that of an object have in most reports.
 const LINE: u64 = 16;
 
+/// The bytes that the line of a site has.
 const SITE: u64 = 8;
 
+/// The bytes that the other lines of a round have in most reports.
 const ROUND: u64 = 48;
 
+/// The bytes that a print has at least.
 const PRINT: u64 = 2;
 
 /// How many calls, and how many numbers they printed.
