@@ -9,7 +9,7 @@ ghost use Rattle.homeo_site.specs.Attempts.{IsChange, IsOutcome, IsRoom, IsEmpty
 ghost use Rattle.homeo_site.specs.SiteState.{SiteHolds, after_local, begun};
 
 use crate::attempts::{Change, Outcome, Room};
-use crate::lists::{copy_to_all, empty_copies, without_room};
+use crate::lists::{copy_to_all, empty_copies};
 use crate::own_round::OwnRound;
 use crate::start::SiteStart;
 use homeo_history::{Entry, Segment};
@@ -187,12 +187,11 @@ impl Site {
         match failure {
             Some(broken) => Outcome::Breaks(broken),
             None => {
-                let alloc = *deltas.allocator();
-                copy_to_all(alloc, prints.as_slice(), answers);
+                let prints = copy_to_all(*deltas.allocator(), prints, answers);
                 Outcome::Keeps(Change {
                     call,
                     deltas: List::from_vec(deltas),
-                    prints: without_room(alloc, prints, answers),
+                    prints,
                 })
             }
         }
