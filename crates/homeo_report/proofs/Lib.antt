@@ -3,7 +3,6 @@ pub mod Blocks
 pub mod Bytes
 pub mod CallsTold
 pub mod CanReport
-pub mod Counts
 pub mod Lines
 pub mod Lookups
 pub mod Names

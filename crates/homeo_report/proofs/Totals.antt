@@ -11,7 +11,6 @@ use Rattle.homeo_history.specs.History as h
 use Rattle.homeo_history.specs.HistoryView.{plain_entry, plain_segment, plain_closing, plain_round}
 use Rattle.homeo_history.specs.Legal.{entries_of}
 use Rattle.homeo_history.specs.declared.history.Closing.{Closing}
-use Rattle.homeo_history.specs.declared.history.Entry.{Entry}
 use Rattle.homeo_history.specs.declared.history.Segment.{Segment}
 use Rattle.homeo_history.specs.declared.history.Round.{Round}
 use Rattle.homeo_report.specs.Summary.{prints_in}

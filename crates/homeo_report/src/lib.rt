@@ -5,6 +5,7 @@ mod calls;
 pub mod laws;
 mod objects;
 mod rounds;
+mod sizes;
 mod summaries;
 
 pub use rounds::report;

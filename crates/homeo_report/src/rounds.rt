@@ -1,15 +1,14 @@
 //! Appending rounds, and the whole report.
-#![tactic(auto, using(crate::proofs::RoundLines::round_steps, crate::proofs::Counts::length_entries_of), unfolding(crate::specs::Key::definitions, homeo_history::specs::Key::definitions))]
+#![tactic(auto, using(crate::proofs::RoundLines::round_steps), unfolding(crate::specs::Key::definitions, homeo_history::specs::Key::definitions))]
 
-ghost use Rattle.std.specs.Prelude.{◌≡◌, ◌^◌, ◌<◌, ◌++◌, map, length, option_map, IfOk, OnOk};
-ghost use Rattle.std.specs.List.{flat_map};
+ghost use Rattle.std.specs.Prelude.{◌≡◌, ◌++◌, map, option_map, IfOk, OnOk};
 ghost use Rattle.homeo_syntax.specs.SourceView.{plain_workload};
 ghost use Rattle.homeo_history.specs.HistoryView.{plain_entry, plain_segment, plain_closing, plain_round, plain_history};
-ghost use Rattle.homeo_history.specs.Legal.{entries_of, calls_of};
 ghost use Rattle.homeo_report.specs.Report.{segment_text, segments_text, closing_heading, closing_text, round_text, rounds_text, totals_line, report, CanReport};
 
 use crate::calls::push_entry;
 use crate::objects::push_objects;
+use crate::sizes::{likely_size, totals_of};
 use homeo_history::{Closing, Entry, History, Round, Segment};
 use homeo_meaning::Accepted;
 use homeo_plan::Broken;
@@ -80,31 +79,6 @@ fn push_round(out: &mut Vec<u8>, w: &Workload, number: u64, round: &Round) -> Re
     push_closing(out, w, &round.closing)
 }
 
-/// How many entries the segments have.
-fn entries_in(segments: &[Segment]) -> u64
-    requires { length (flat_map plain_segment segments.now) < 2 ^ 64 }
-    ensures { result ≡ length (flat_map plain_segment segments.now) }
-{
-    let mut count = 0;
-    for segment in segments {
-        count += segment.entries.as_slice().len() as u64;
-    }
-    count
-}
-
-/// How many calls the round has.
-fn calls_in(round: &Round) -> u64
-    requires { length (entries_of (plain_round round.now)) < 2 ^ 64 }
-    ensures { result ≡ length (entries_of (plain_round round.now)) }
-{
-    let entries = entries_in(round.segments.as_slice());
-    if round.closing.is_some() {
-        entries + 1
-    } else {
-        entries
-    }
-}
-
 fn push_totals(out: &mut Vec<u8>, rounds: u64, calls: u64) -> Result<(), Memory>
     ensures { OnOk result (out.new.items ≡ out.old.items ++ totals_line rounds calls) }
 {
@@ -115,18 +89,14 @@ fn push_totals(out: &mut Vec<u8>, rounds: u64, calls: u64) -> Result<(), Memory>
     push_bytes(out, b"\n")
 }
 
-/// Appends all rounds, and gives the number of their calls.
-fn push_rounds(out: &mut Vec<u8>, w: &Workload, rounds: &[Round]) -> Result<u64, Memory>
-    ensures text { OnOk result (out.new.items
+fn push_rounds(out: &mut Vec<u8>, w: &Workload, rounds: &[Round]) -> Result<(), Memory>
+    ensures { OnOk result (out.new.items
         ≡ out.old.items ++ rounds_text (plain_workload w.now) (map plain_round rounds.now)) }
-    ensures calls { IfOk result (λ n. n ≡ length (calls_of (map plain_round rounds.now))) }
 {
-    let mut calls = 0;
     for (number, round) in rounds.iter().enumerate() {
         push_round(out, w, number as u64, round)?;
-        calls += calls_in(round);
     }
-    Ok(calls)
+    Ok(())
 }
 
 fn report_of(alloc: Global, history: &History, w: &Workload) -> Result<Vec<u8>, Memory>
@@ -134,12 +104,14 @@ fn report_of(alloc: Global, history: &History, w: &Workload) -> Result<Vec<u8>, 
     ensures { IfOk result (λ bytes.
         bytes.items ≡ report (plain_workload w.now) (plain_history history.now)) }
 {
-    let mut out = Vec::new(alloc);
-    let calls = push_rounds(&mut out, w, history.rounds.as_slice())?;
+    let rounds = history.rounds.as_slice();
+    let totals = totals_of(rounds)?;
+    let mut out = Vec::with_capacity(alloc, likely_size(history, w, totals) as usize)?;
+    push_rounds(&mut out, w, rounds)?;
     push_bytes(&mut out, b"database\n")?;
     let names = ObjectNames::of(alloc, w)?;
     push_objects(&mut out, &names, history.last.as_slice())?;
-    push_totals(&mut out, history.rounds.as_slice().len() as u64, calls)?;
+    push_totals(&mut out, rounds.len() as u64, totals.calls)?;
     Ok(out)
 }
 
@@ -147,7 +119,7 @@ fn report_of(alloc: Global, history: &History, w: &Workload) -> Result<Vec<u8>, 
 ///
 /// # Errors
 ///
-/// `Memory` where memory is wanting.
+/// `Memory` where memory is wanting, or where there are 2^64 calls or prints, for which there is no memory.
 pub fn report(alloc: Global, history: &History, w: &Accepted) -> Result<Vec<u8>, Memory>
     requires { CanReport (plain_workload w.now) (plain_history history.now) }
     ensures { IfOk result (λ bytes.

@@ -44,15 +44,23 @@ fn copy_prints(prints: &[i64], copy: &mut Prints)
     }
 }
 
-/// Copies prints into each of such lists. It takes no memory.
-pub(crate) fn copy_to_all(alloc: Global, prints: &[i64], copies: &mut List<Prints>)
-    requires { All (λ copy. (copy.items ≡ []) × (length prints.now ≤ copy.spare)) copies.old.items }
+/// Copies prints into each of such lists, and gives them back: where there are such lists, in the first of them, whose place their own
+/// list takes, since that one may have room to spare. It takes no memory.
+pub(crate) fn copy_to_all(alloc: Global, prints: Prints, copies: &mut List<Prints>) -> Prints
+    requires { All (λ copy. (copy.items ≡ []) × (length prints.items ≤ copy.spare)) copies.old.items }
+    ensures prints { result.items ≡ prints.items }
     ensures count { length copies.new.items ≡ length copies.old.items }
-    ensures copied { All (λ copy. copy.items ≡ prints.now) copies.new.items }
+    ensures copied { All (λ copy. copy.items ≡ prints.items) copies.new.items }
 {
     let mut lists = mem::replace(copies, List::new(alloc)).into_vec();
+    let numbers = prints.as_slice();
     for place in 0..lists.len() {
-        copy_prints(prints, &mut lists[place]);
+        copy_prints(numbers, &mut lists[place]);
+    }
+    let mut kept = prints;
+    if !lists.is_empty() {
+        kept = mem::replace(&mut lists[0], kept);
     }
     *copies = List::from_vec(lists);
+    kept
 }

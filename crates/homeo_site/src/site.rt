@@ -187,7 +187,7 @@ impl Site {
         match failure {
             Some(broken) => Outcome::Breaks(broken),
             None => {
-                copy_to_all(*deltas.allocator(), prints.as_slice(), answers);
+                let prints = copy_to_all(*deltas.allocator(), prints, answers);
                 Outcome::Keeps(Change {
                     call,
                     deltas: List::from_vec(deltas),

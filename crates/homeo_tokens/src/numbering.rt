@@ -108,16 +108,18 @@ impl<'a> Numbering<'a> {
         Ok(())
     }
 
-    /// The tokens with their version, and a copy of the names.
+    /// The tokens with their version, in a list without room to spare, and a copy of the names.
     pub fn finish(self, alloc: Global) -> Result<Numbered, Memory>
         ensures version { IfOk result (λ n. n.version ≡ version_by self.entry.tokens.items) }
         ensures tokens { IfOk result (λ n. n.tokens.items ≡ self.entry.tokens.items) }
         ensures names { IfOk result (λ n. n.names.items ≡ plain_names self.entry.names) }
     {
         let names = copy_names(alloc, &self.names)?;
+        let mut tokens = self.tokens;
+        tokens.shrink_to_fit();
         Ok(Numbered {
-            version: version_of(self.tokens.as_slice()),
-            tokens: self.tokens,
+            version: version_of(tokens.as_slice()),
+            tokens,
             names,
         })
     }

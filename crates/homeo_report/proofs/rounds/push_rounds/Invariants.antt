@@ -1,11 +1,8 @@
-use Rattle.std.proofs.Common.{◌≡◌, ◌≤◌, ◌++◌, length, map, take}
+use Rattle.std.proofs.Common.{◌≡◌, ◌++◌, map, take}
 use Rattle.homeo_syntax.specs.SourceView.{plain_workload}
 use Rattle.homeo_history.specs.HistoryView.{plain_round}
-use Rattle.homeo_history.specs.Legal.{calls_of}
 use Rattle.homeo_report.specs.Report.{rounds_text}
 use Rattle.homeo_report.proofs.rounds.push_rounds.Given as goal
 
 abbrev pub invariant-loop-number : goal.invariant-loop-number
-invariant-loop-number l =
-    let rounds = map plain_round (take l.number l.rounds) in
-    (l.out.items ≡ l.fn.out.items ++ rounds_text (plain_workload l.w) rounds) × (l.calls ≡ length (calls_of rounds)) × (l.calls ≤ length l.out.items)
+invariant-loop-number l = l.out.items ≡ l.fn.out.items ++ rounds_text (plain_workload l.w) (map plain_round (take l.number l.rounds))

@@ -6,6 +6,6 @@ use Rattle.homeo_site.proofs.lists.copy_to_all.Given as goal
 abbrev pub invariant-loop-place : goal.invariant-loop-place
 invariant-loop-place l = record {
   count : length l.lists.items ≡ length l.fn.copies.items;
-  copied : AllWithin (λ copy. copy.items ≡ l.prints) l.lists.items 0 l.place;
-  empty : AllWithin (λ copy. (copy.items ≡ []) × (length l.prints ≤ copy.spare)) l.lists.items l.place (length l.lists.items);
+  copied : AllWithin (λ copy. copy.items ≡ l.numbers) l.lists.items 0 l.place;
+  empty : AllWithin (λ copy. (copy.items ≡ []) × (length l.numbers ≤ copy.spare)) l.lists.items l.place (length l.lists.items);
 }

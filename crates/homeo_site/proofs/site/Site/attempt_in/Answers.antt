@@ -21,10 +21,9 @@ failure-failure-requires c =
     (others_stay c.args.room.written.items c.as_slice.result.now c.as_slice-2.result.now c.args.room.deltas.items c.args.self.now.state.deltas
     c.as_slice.ensures (c.as_slice-2.ensures.value ∙ c.into_vec-deltas.ensures) c.requires.room.written)
 
-pub copy_to_all-requires : goal.copy_to_all-requires
-copy_to_all-requires c =
-    copies_fit c.args.self.now c.args.call c.as_slice-in-None.result.now c.args.answers.now.items
-    (c.as_slice-in-None.ensures ∙ c.requires.room.prints) c.requires.answers
+pub copy_to_all-prints-requires : goal.copy_to_all-prints-requires
+copy_to_all-prints-requires c =
+    copies_fit c.args.self.now c.args.call c.args.room.prints.items c.args.answers.now.items c.requires.room.prints c.requires.answers
 
 pub returns-in-Some-clause-outcome : goal.returns-in-Some-clause-outcome
 unfolding definitions
@@ -52,8 +51,8 @@ returns-clause-outcome c =
     c.as_slice.ensures (c.as_slice-2.ensures.value ∙ c.into_vec-deltas.ensures) c.requires.room.written)
     c.failure-failure.result c.failure-failure.ensures)
     ∙ c.in-None.is)
-    refl (ap (λ (l : Listed ℤ). l.items) c.from_vec.ensures ∙ c.into_vec-deltas.ensures ∙ c.requires.room.deltas) c.requires.room.prints
+    refl (ap (λ (l : Listed ℤ). l.items) c.from_vec.ensures ∙ c.into_vec-deltas.ensures ∙ c.requires.room.deltas) (c.copy_to_all-prints.ensures.prints ∙ c.requires.room.prints)
 
 pub returns-clause-answers : goal.returns-clause-answers
 unfolding definitions
-returns-clause-answers c k d lt = c.copy_to_all.ensures.copied k d lt ∙ c.as_slice-in-None.ensures
+returns-clause-answers c k d lt = c.copy_to_all-prints.ensures.copied k d lt ∙ sym c.copy_to_all-prints.ensures.prints

@@ -1,7 +1,7 @@
 use Rattle.std.proofs.Common.{◌≡◌, ◌+◌, length, map, take}
 use Rattle.homeo_history.specs.HistoryView.{plain_entry}
 use Rattle.homeo_report.specs.Summary.{prints_in}
-use Rattle.homeo_report.proofs.summaries.with_entries.Given as goal
+use Rattle.homeo_report.proofs.sizes.with_entries.Given as goal
 
 abbrev pub invariant-loop-entry : goal.invariant-loop-entry
 invariant-loop-entry l = record {

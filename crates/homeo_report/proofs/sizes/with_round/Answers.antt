@@ -5,7 +5,7 @@ use Rattle.std.proofs.lemmas.List.{length_push}
 use Rattle.homeo_history.specs.HistoryView.{plain_entry, plain_segment}
 use Rattle.homeo_report.specs.Summary.{prints_in}
 use Rattle.homeo_report.proofs.Totals.{open_entries, closed_entries, closed_prints}
-use Rattle.homeo_report.proofs.summaries.with_round.Goals as goal
+use Rattle.homeo_report.proofs.sizes.with_round.Goals as goal
 
 pub returns-in_ok-with_entry-in-Some-clause-calls : goal.returns-in_ok-with_entry-in-Some-clause-calls
 returns-in_ok-with_entry-in-Some-clause-calls c =
