@@ -10,7 +10,6 @@ use Rattle.homeo_meaning.specs.Serial.{values_of, values_from}
 use Rattle.homeo_plan.specs.Key.{definitions}
 use Rattle.homeo_plan.specs.Split.{sum_from, fold_state}
 use Rattle.homeo_plan.proofs.Sums.{sum_same, sum_zero}
-use Rattle.homeo_syntax.specs.declared.low.Temp.TheVariants.{Named, Fresh}
 use Rattle.homeo_split.specs.Key.{definitions as split_definitions}
 use Rattle.homeo_split.specs.States.{state_of}
 use Rattle.homeo_split.specs.declared.split.Split.{Split}
@@ -110,7 +109,6 @@ whole_fold s none = fun_ext at
         ∙ ap (folded_at s) (same x)
 
     at : (p : Location) → whole (values_of (folded s)) p ≡ fold_state (length s.deltas.items) (state_of s) p
-    at (TempAt (Named n)) = refl
-    at (TempAt (Fresh n)) = refl
+    at (TempAt t) = refl
     at (BaseAt x) = value_at x
     at (DeltaAt x j) = refl

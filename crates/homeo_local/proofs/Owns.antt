@@ -1,5 +1,5 @@
 -- What changes of a site's lists are as changes of its state, where a run begins, and what it leaves.
-use Rattle.std.proofs.Common.{◌≡◌, ◌⊎◌, inl, inr, ℕ, ◌<◌, ◌==◌, eqb, ℤ, pos, ◌+ℤ◌, ◌-ℤ◌, neg_ℤ, Bool, true, false, cond, List, [], set, length, get_or, FitsSigned, w64, refl, sym, ap, ◌∙◌, subst, arith}
+use Rattle.std.proofs.Common.{◌≡◌, ◌⊎◌, inl, inr, ℕ, ◌<◌, ◌==◌, eqb, ℤ, pos, ◌+ℤ◌, ◌-ℤ◌, neg_ℤ, Bool, true, false, cond, List, set, length, FitsSigned, w64, refl, sym, ap, ◌∙◌, subst, arith}
 use Rattle.std.specs.Int.{int_wrap}
 use Rattle.std.specs.List.{list_any, dedup}
 use Rattle.std.proofs.Math.IntN.{+ℤ_comm, +ℤ-neg_ℤ_cancel, -ℤ-+ℤ_cancel}
@@ -9,34 +9,13 @@ use Rattle.std.proofs.lemmas.Cmp.{nat_eq_equiv}
 use Rattle.std.proofs.lemmas.Int.{int_wrap_fits, int_wrap-add_left, int_wrap-add_right}
 use Rattle.std.proofs.lemmas.List.Folds.{Any-from_list_any, list_any-from_Any}
 use Rattle.std.proofs.lemmas.List.Kept.{Any-dedup}
-use Rattle.homeo_syntax.specs.declared.low.Temp.TheVariants.{Named, Fresh}
+use Rattle.homeo_syntax.specs.declared.low.Temp.{Temp}
 use Rattle.homeo_meaning.specs.Key.{definitions}
 use Rattle.homeo_meaning.specs.LowMeaning.{Location, TempAt, BaseAt, DeltaAt, put, whole}
 use Rattle.homeo_meaning.specs.Serial.{values_of}
 use Rattle.homeo_meaning.proofs.AbsentItems.{padded_set}
 use Rattle.homeo_local.specs.OwnValues.{own_values}
 use Rattle.homeo_local.specs.inner.Own.{own_with}
-
-module _ (base deltas named fresh new : List ℤ) (n : ℕ) (v : ℤ) where
-  named_at : ((m : ℕ) → get_or new m (pos 0) ≡ cond (n == m) v (get_or named m (pos 0))) → (q : Location) → own_with base deltas new fresh q ≡ put (own_with base deltas named fresh) (TempAt (Named n)) v q
-  unfolding definitions
-  named_at h (TempAt (Named m)) = h m
-  named_at h (TempAt (Fresh m)) = refl
-  named_at h (BaseAt x) = refl
-  named_at h (DeltaAt x j) = refl
-
-  pub set_named : ((m : ℕ) → get_or new m (pos 0) ≡ cond (n == m) v (get_or named m (pos 0))) → own_with base deltas new fresh ≡ put (own_with base deltas named fresh) (TempAt (Named n)) v
-  set_named h = λ i q. named_at h q i
-
-  fresh_at : ((m : ℕ) → get_or new m (pos 0) ≡ cond (n == m) v (get_or fresh m (pos 0))) → (q : Location) → own_with base deltas named new q ≡ put (own_with base deltas named fresh) (TempAt (Fresh n)) v q
-  unfolding definitions
-  fresh_at h (TempAt (Named m)) = refl
-  fresh_at h (TempAt (Fresh m)) = h m
-  fresh_at h (BaseAt x) = refl
-  fresh_at h (DeltaAt x j) = refl
-
-  pub set_fresh : ((m : ℕ) → get_or new m (pos 0) ≡ cond (n == m) v (get_or fresh m (pos 0))) → own_with base deltas named new ≡ put (own_with base deltas named fresh) (TempAt (Fresh n)) v
-  set_fresh h = λ i q. fresh_at h q i
 
 -- ---- an object is written
 -- what is taken off comes back
@@ -50,15 +29,14 @@ module _ (base deltas : List ℤ) (x : ℕ) (v : ℤ) (there : x < length deltas
       ap (λ z. int_wrap w64 (values_of base y +ℤ int_wrap w64 (v -ℤ values_of base z))) same ∙ made_up (values_of base y) v f
   here y false e f = refl
 
-  object_at : FitsSigned w64 v → (named fresh : List ℤ) (q : Location) → own_with base (set deltas x (int_wrap w64 (v -ℤ values_of base x))) named fresh q ≡ put (own_with base deltas named fresh) (BaseAt x) v q
+  object_at : FitsSigned w64 v → (temps : Temp → ℤ) (q : Location) → own_with base (set deltas x (int_wrap w64 (v -ℤ values_of base x))) temps q ≡ put (own_with base deltas temps) (BaseAt x) v q
   unfolding definitions
-  object_at f named fresh (TempAt (Named m)) = refl
-  object_at f named fresh (TempAt (Fresh m)) = refl
-  object_at f named fresh (BaseAt y) = ap (λ d. int_wrap w64 (values_of base y +ℤ d)) (padded_set deltas x _ (pos 0) y there) ∙ here y (x == y) refl f
-  object_at f named fresh (DeltaAt y k) = refl
+  object_at f temps (TempAt t) = refl
+  object_at f temps (BaseAt y) = ap (λ d. int_wrap w64 (values_of base y +ℤ d)) (padded_set deltas x _ (pos 0) y there) ∙ here y (x == y) refl f
+  object_at f temps (DeltaAt y k) = refl
 
-  pub set_object : FitsSigned w64 v → (named fresh : List ℤ) → own_with base (set deltas x (int_wrap w64 (v -ℤ values_of base x))) named fresh ≡ put (own_with base deltas named fresh) (BaseAt x) v
-  set_object f named fresh = λ i q. object_at f named fresh q i
+  pub set_object : FitsSigned w64 v → (temps : Temp → ℤ) → own_with base (set deltas x (int_wrap w64 (v -ℤ values_of base x))) temps ≡ put (own_with base deltas temps) (BaseAt x) v
+  set_object f temps = λ i q. object_at f temps q i
 
 pub stays_or_fits : (deltas : List ℤ) (x : ℕ) (d : ℤ) → x < length deltas → FitsSigned w64 d → (n : ℕ) → (values_of (set deltas x d) n ≡ values_of deltas n) ⊎ FitsSigned w64 (values_of (set deltas x d) n)
 stays_or_fits deltas x d there f n = go (x == n) (padded_set deltas x d (pos 0) n there)
@@ -68,15 +46,15 @@ stays_or_fits deltas x d there f n = go (x == n) (padded_set deltas x d (pos 0) 
     go false e = inl e
 
 -- ---- where a run begins, and what it leaves
-begins_at : (base deltas : List ℤ) → ((n : ℕ) → FitsSigned w64 (own_values base deltas n)) → (q : Location) → own_with base deltas [] [] q ≡ whole (own_values base deltas) q
-unfolding definitions
-begins_at base deltas f (TempAt (Named m)) = refl
-begins_at base deltas f (TempAt (Fresh m)) = refl
-begins_at base deltas f (BaseAt y) = int_wrap_fits w64 (own_values base deltas y) (f y)
-begins_at base deltas f (DeltaAt y k) = refl
+module _ (base deltas : List ℤ) (temps : Temp → ℤ) (zero : (t : Temp) → temps t ≡ pos 0) (fits : (n : ℕ) → FitsSigned w64 (own_values base deltas n)) where
+  begins_at : (q : Location) → own_with base deltas temps q ≡ whole (own_values base deltas) q
+  unfolding definitions
+  begins_at (TempAt t) = zero t
+  begins_at (BaseAt y) = int_wrap_fits w64 (own_values base deltas y) (fits y)
+  begins_at (DeltaAt y k) = refl
 
-pub begins : (base deltas copied named fresh : List ℤ) → copied ≡ deltas → named ≡ [] → fresh ≡ [] → ((n : ℕ) → FitsSigned w64 (own_values base deltas n)) → own_with base copied named fresh ≡ whole (own_values base deltas)
-begins base deltas copied named fresh d e g f = (λ i. own_with base (d i) (e i) (g i)) ∙ (λ i q. begins_at base deltas f q i)
+  pub begins : (copied : List ℤ) → copied ≡ deltas → own_with base copied temps ≡ whole (own_values base deltas)
+  begins copied same = (λ i. own_with base (same i) temps) ∙ (λ i q. begins_at q i)
 
 -- a delta is the difference, where that fits
 module _ (b d v : ℤ) (is : int_wrap w64 (b +ℤ d) ≡ v) where

@@ -5,11 +5,11 @@ ghost use Rattle.homeo_meaning.specs.LowMeaning.{BaseAt, put};
 ghost use Rattle.homeo_local.specs.inner.Own.{plain_own};
 ghost use Rattle.homeo_local.specs.inner.Leads.{Leads};
 
-use homeo_meaning::padded::{item_or, put};
-use homeo_split::{Reads, Store};
+use homeo_meaning::padded::item_or;
+use homeo_split::{Reads, Store, Temporaries};
 use homeo_syntax::{Memory, SplitName, Temp};
 
-/// The base, the site's deltas, the temporaries, named and fresh, and the objects that were written, in order.
+/// The base, the site's deltas, the temporaries, and the objects that were written, in order.
 ///
 /// An object is its base and its delta. Their sum wraps, and so does what a write takes off: a run begins with sums that fit, and
 /// what is written fits, so the sum is the object's value whatever its delta is, and nothing has to be known of deltas on the way.
@@ -17,8 +17,7 @@ use homeo_syntax::{Memory, SplitName, Temp};
 pub(crate) struct Own<'a> {
     pub(crate) base: &'a [i64],
     pub(crate) deltas: Vec<i64>,
-    pub(crate) named: Vec<i64>,
-    pub(crate) fresh: Vec<i64>,
+    pub(crate) temporaries: Temporaries,
     pub(crate) written: Vec<u32>,
 }
 
@@ -29,10 +28,7 @@ impl Reads for Own<'_> {
 
     #[tactic(auto, unfolding(crate::specs::inner::Key::definitions))]
     fn temp(&self, t: Temp) -> i64 {
-        match t {
-            Temp::Named(n) => item_or(self.named.as_slice(), n as usize, 0),
-            Temp::Fresh(n) => item_or(self.fresh.as_slice(), n as usize, 0),
-        }
+        self.temporaries.get(t)
     }
 
     #[tactic(auto, unfolding(crate::specs::inner::Key::definitions, homeo_meaning::specs::Key::definitions))]
@@ -56,10 +52,7 @@ impl Store for Own<'_> {
     ghost leads_to = { λ o p. Leads o p };
 
     fn assign(&mut self, t: Temp, v: i64) -> Result<(), Memory> {
-        match t {
-            Temp::Named(n) => put(&mut self.named, n as usize, v, 0),
-            Temp::Fresh(n) => put(&mut self.fresh, n as usize, v, 0),
-        }
+        self.temporaries.set(t, v)
     }
 
     fn write(&mut self, x: SplitName, v: i64) -> Result<(), Memory> {

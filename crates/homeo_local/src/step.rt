@@ -14,7 +14,7 @@ ghost use Rattle.homeo_local.specs.OwnValues.{own_values, own_shape};
 
 use crate::own::Own;
 use homeo_meaning::Database;
-use homeo_split::run;
+use homeo_split::{Temporaries, run};
 use homeo_syntax::{LCommand, List, Memory, Prints};
 use std::alloc::Global;
 
@@ -59,8 +59,7 @@ pub fn local_step(
     let mut state = Own {
         base,
         deltas: Vec::from_slice(alloc, deltas)?,
-        named: Vec::new(alloc),
-        fresh: Vec::new(alloc),
+        temporaries: Temporaries::new(alloc),
         written: Vec::new(alloc),
     };
     let mut prints = List::new(alloc);

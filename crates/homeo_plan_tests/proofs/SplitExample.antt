@@ -25,9 +25,9 @@ raise-whole c e = subst IsWhole (sym e) ((tt, (tt, (tt, tt))), (tt, tt))
 abbrev pub shifted : Command
 shifted = shift 2 1 raise
 
-start_is : (s : Split) → IsStart s → state_of s ≡ state_with base deltas [] []
+start_is : (s : Split) → IsStart s → state_of s ≡ state_with base deltas (λ t. pos 0)
 unfolding split_definitions
-start_is s is = λ i. state_with (is.base i) (is.deltas i) [] []
+start_is s is = λ i. state_with (is.base i) (is.deltas i) (λ t. pos 0)
 
 pub start_shape : (s : Split) → IsStart s → shape_of s ≡ record { base = 2; deltas = 2 ∷ 2 ∷ [] }
 unfolding split_definitions
@@ -78,7 +78,7 @@ fit : (n : ℕ) → n < 2 ^ 63 → FitsSigned w64 (pos n)
 fit n h = fits_signed_from_abs w64 (pos n) (omega arith)
 
 abbrev before : State
-before = state_with base deltas [] []
+before = state_with base deltas (λ t. pos 0)
 
 abbrev after : State
 after = (exec shifted before).state

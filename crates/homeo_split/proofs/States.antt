@@ -1,47 +1,46 @@
 -- What a change of the code's lists is as a change of the state.
-use Rattle.std.proofs.Common.{◌≡◌, ℕ, zero, suc, ◌<◌, ◌==◌, ℤ, pos, Bool, true, false, cond, ◌&&◌, List, [], ◌∷◌, map, set, length, get_or, refl, sym, ap, ◌∙◌, subst, arith}
+use Rattle.std.proofs.Common.{◌≡◌, ℕ, zero, suc, ◌<◌, ◌==◌, ℤ, pos, Bool, true, false, cond, ◌&&◌, List, [], ◌∷◌, map, set, length, get_or, refl, sym, ap, ◌∙◌, subst, arith, SFits, w64, to_z, of_z}
 use Rattle.std.proofs.Math.Seq.{map-set_same}
 use Rattle.std.proofs.lemmas.List.{get_or-map, length-map, length-set, map-set}
 use Rattle.std.proofs.lemmas.Bool.Decides.{nat_tests}
+use Rattle.std.proofs.lemmas.Int.{to_z-of_z}
+use Rattle.homeo_syntax.specs.declared.low.Temp.{Temp}
 use Rattle.homeo_syntax.specs.declared.low.Temp.TheVariants.{Named, Fresh}
 use Rattle.homeo_syntax.specs.declared.low.SplitName.TheVariants.{Base, Delta}
 use Rattle.homeo_meaning.specs.Key.{definitions}
-use Rattle.homeo_meaning.specs.LowMeaning.{Location, TempAt, BaseAt, DeltaAt, put}
+use Rattle.homeo_meaning.specs.LowMeaning.{State, Location, TempAt, BaseAt, DeltaAt, same_temp, put}
+use Rattle.homeo_meaning.specs.Serial.{values_of}
 use Rattle.homeo_meaning.proofs.AbsentItems.{padded_set}
 use Rattle.homeo_split.specs.Key.{definitions as split_definitions}
-use Rattle.homeo_split.specs.States.{state_with}
+use Rattle.homeo_split.specs.States.{temps_of, state_with}
+use Rattle.homeo_split.specs.declared.temporaries.Temporaries.{Temporaries}
 use Rattle.homeo_split.specs.Shape.{Shape, has_place}
 
-module _ (base : List ℤ) (deltas : List (List ℤ)) (named fresh new : List ℤ) (n : ℕ) (v : ℤ) where
-  named_at : ((m : ℕ) → get_or new m (pos 0) ≡ cond (n == m) v (get_or named m (pos 0))) → (q : Location) → state_with base deltas new fresh q ≡ put (state_with base deltas named fresh) (TempAt (Named n)) v q
+-- temporaries that differ from others by one are the others with that one set
+pub set_temps : (s z : Temporaries) {t w : Temp} → t ≡ w → (v : ℤ) → SFits w64 v → ((m : ℕ) → values_of z.named.items m ≡ cond (same_temp w (Named m)) (to_z w64 (of_z w64 v)) (values_of s.named.items m)) → ((m : ℕ) → values_of z.fresh.items m ≡ cond (same_temp w (Fresh m)) (to_z w64 (of_z w64 v)) (values_of s.fresh.items m)) → (u : Temp) → temps_of z u ≡ cond (same_temp t u) v (temps_of s u)
+unfolding split_definitions
+set_temps s z is v fits named fresh (Named m) = named m ∙ (λ i. cond (same_temp (sym is i) (Named m)) (to_z-of_z w64 v fits i) (values_of s.named.items m))
+set_temps s z is v fits named fresh (Fresh m) = fresh m ∙ (λ i. cond (same_temp (sym is i) (Fresh m)) (to_z-of_z w64 v fits i) (values_of s.fresh.items m))
+
+-- a state that differs from another by one temporary is the other with that one set
+module _ (s u : State) (t : Temp) (v : ℤ) (fits : SFits w64 v) (temps : (w : Temp) → u (TempAt w) ≡ cond (same_temp t w) (to_z w64 (of_z w64 v)) (s (TempAt w))) (bases : (x : ℕ) → u (BaseAt x) ≡ s (BaseAt x)) (deltas : (x j : ℕ) → u (DeltaAt x j) ≡ s (DeltaAt x j)) where
+  temp_at : (q : Location) → u q ≡ put s (TempAt t) v q
   unfolding definitions
-  named_at h (TempAt (Named m)) = h m
-  named_at h (TempAt (Fresh m)) = refl
-  named_at h (BaseAt x) = refl
-  named_at h (DeltaAt x j) = refl
+  temp_at (TempAt w) = temps w ∙ ap (λ v. cond (same_temp t w) v (s (TempAt w))) (to_z-of_z w64 v fits)
+  temp_at (BaseAt x) = bases x
+  temp_at (DeltaAt x j) = deltas x j
 
-  pub set_named : ((m : ℕ) → get_or new m (pos 0) ≡ cond (n == m) v (get_or named m (pos 0))) → state_with base deltas new fresh ≡ put (state_with base deltas named fresh) (TempAt (Named n)) v
-  set_named h = λ i q. named_at h q i
+  pub set_temp : u ≡ put s (TempAt t) v
+  set_temp = λ i q. temp_at q i
 
-  fresh_at : ((m : ℕ) → get_or new m (pos 0) ≡ cond (n == m) v (get_or fresh m (pos 0))) → (q : Location) → state_with base deltas named new q ≡ put (state_with base deltas named fresh) (TempAt (Fresh n)) v q
+module _ (base : List ℤ) (deltas : List (List ℤ)) (temps : Temp → ℤ) (x : ℕ) (v : ℤ) where
+  base_at : x < length base → (q : Location) → state_with (set base x v) deltas temps q ≡ put (state_with base deltas temps) (BaseAt x) v q
   unfolding definitions
-  fresh_at h (TempAt (Named m)) = refl
-  fresh_at h (TempAt (Fresh m)) = h m
-  fresh_at h (BaseAt x) = refl
-  fresh_at h (DeltaAt x j) = refl
-
-  pub set_fresh : ((m : ℕ) → get_or new m (pos 0) ≡ cond (n == m) v (get_or fresh m (pos 0))) → state_with base deltas named new ≡ put (state_with base deltas named fresh) (TempAt (Fresh n)) v
-  set_fresh h = λ i q. fresh_at h q i
-
-module _ (base : List ℤ) (deltas : List (List ℤ)) (named fresh : List ℤ) (x : ℕ) (v : ℤ) where
-  base_at : x < length base → (q : Location) → state_with (set base x v) deltas named fresh q ≡ put (state_with base deltas named fresh) (BaseAt x) v q
-  unfolding definitions
-  base_at h (TempAt (Named m)) = refl
-  base_at h (TempAt (Fresh m)) = refl
+  base_at h (TempAt t) = refl
   base_at h (BaseAt y) = padded_set base x v (pos 0) y h
   base_at h (DeltaAt y k) = refl
 
-  pub set_base : x < length base → state_with (set base x v) deltas named fresh ≡ put (state_with base deltas named fresh) (BaseAt x) v
+  pub set_base : x < length base → state_with (set base x v) deltas temps ≡ put (state_with base deltas temps) (BaseAt x) v
   set_base h = λ i q. base_at h q i
 
 both_tests : (a b : Bool) (u w : ℤ) → cond b (cond a u w) w ≡ cond (a && b) u w
@@ -57,18 +56,17 @@ site_case deltas x j y k v true e h =
     padded_set (get_or deltas j []) x v (pos 0) y h ∙ ap (λ l. cond (x == y) v (get_or (get_or deltas l []) y (pos 0))) same
 site_case deltas x j y k v false e h = refl
 
-module _ (base : List ℤ) (deltas : List (List ℤ)) (named fresh : List ℤ) (x j : ℕ) (v : ℤ) where
-  delta_at : j < length deltas → x < length (get_or deltas j []) → (q : Location) → state_with base (set deltas j (set (get_or deltas j []) x v)) named fresh q ≡ put (state_with base deltas named fresh) (DeltaAt x j) v q
+module _ (base : List ℤ) (deltas : List (List ℤ)) (temps : Temp → ℤ) (x j : ℕ) (v : ℤ) where
+  delta_at : j < length deltas → x < length (get_or deltas j []) → (q : Location) → state_with base (set deltas j (set (get_or deltas j []) x v)) temps q ≡ put (state_with base deltas temps) (DeltaAt x j) v q
   unfolding definitions
-  delta_at s h (TempAt (Named m)) = refl
-  delta_at s h (TempAt (Fresh m)) = refl
+  delta_at s h (TempAt t) = refl
   delta_at s h (BaseAt y) = refl
   delta_at s h (DeltaAt y k) =
       ap (λ l. get_or l y (pos 0)) (padded_set deltas j (set (get_or deltas j []) x v) [] k s)
       ∙ site_case deltas x j y k v (j == k) refl h
       ∙ both_tests (x == y) (j == k) v (get_or (get_or deltas k []) y (pos 0))
 
-  pub set_delta : j < length deltas → x < length (get_or deltas j []) → state_with base (set deltas j (set (get_or deltas j []) x v)) named fresh ≡ put (state_with base deltas named fresh) (DeltaAt x j) v
+  pub set_delta : j < length deltas → x < length (get_or deltas j []) → state_with base (set deltas j (set (get_or deltas j []) x v)) temps ≡ put (state_with base deltas temps) (DeltaAt x j) v
   set_delta s h = λ i q. delta_at s h q i
 
 -- ---- the places that are there
@@ -99,11 +97,11 @@ module _ {A : Type 0} (f : A → List ℤ) (l : List A) (x j : ℕ) (here : A) (
   pub same_lengths : map (λ d. length (f d)) (set l j new) ≡ map (λ d. length (f d)) l
   same_lengths = map-set_same (λ d. length (f d)) l j new here (ap length changed ∙ length-set (f here) x v ∙ ap (λ d. length (f d)) is)
 
-pub set_site : {A : Type 0} (f : A → List ℤ) (l : List A) (x j base : ℕ) → has_place (record { base = base; deltas = map (λ d. length (f d)) l }) (Delta x j) ≡ true → (here : A) → here ≡ get_or l j here → (new : A) (v : ℤ) → f new ≡ set (f here) x v → (values named fresh : List ℤ) → state_with values (map f (set l j new)) named fresh ≡ put (state_with values (map f l) named fresh) (DeltaAt x j) v
-set_site f l x j base has here is new v changed values named fresh =
+pub set_site : {A : Type 0} (f : A → List ℤ) (l : List A) (x j base : ℕ) → has_place (record { base = base; deltas = map (λ d. length (f d)) l }) (Delta x j) ≡ true → (here : A) → here ≡ get_or l j here → (new : A) (v : ℤ) → f new ≡ set (f here) x v → (values : List ℤ) (temps : Temp → ℤ) → state_with values (map f (set l j new)) temps ≡ put (state_with values (map f l) temps) (DeltaAt x j) v
+set_site f l x j base has here is new v changed values temps =
     let there = site_is f l x j base has in
     let list_is : f here ≡ get_or (map f l) j [] = ap f is ∙ sym (get_or-map f l j here [] there) in
     let lists = map-set f l j new ∙ ap (set (map f l) j) (changed ∙ ap (λ d. set d x v) list_is) in
     let sites : j < length (map f l) = subst (λ n. j < n) (sym (length-map l f)) there in
     let objects : x < length (get_or (map f l) j []) = subst (λ d. x < length d) list_is (object_is f l x j base has here is) in
-    ap (λ ds. state_with values ds named fresh) lists ∙ set_delta values (map f l) named fresh x j v sites objects
+    ap (λ ds. state_with values ds temps) lists ∙ set_delta values (map f l) temps x j v sites objects

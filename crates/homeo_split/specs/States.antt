@@ -1,26 +1,30 @@
--- The states that split databases stand for, and runs.
-use Rattle.std.specs.Prelude.{◌≡◌, ℕ, ℤ, pos, List, [], map, slice_index_or}
+-- The states that temporaries and split databases stand for, and runs.
+use Rattle.std.specs.Prelude.{◌≡◌, ℤ, pos, List, [], map, slice_index_or}
+use Rattle.homeo_syntax.specs.declared.low.Temp.{Temp}
 use Rattle.homeo_syntax.specs.declared.low.Temp.TheVariants.{Named, Fresh}
 use Rattle.homeo_syntax.specs.declared.low.SplitName.{SplitName}
 use Rattle.homeo_meaning.specs.LowMeaning.{State, Run, TempAt, BaseAt, DeltaAt, location_of}
+use Rattle.homeo_meaning.specs.Serial.{values_of}
 use Rattle.homeo_split.specs.Key.{definitions}
 use Rattle.homeo_split.specs.declared.split.Split.{Split}
-
--- the n-th value: 0 past the end
-abbrev pub at : List ℤ → ℕ → ℤ
-at values n = slice_index_or values n (pos 0)
+use Rattle.homeo_split.specs.declared.temporaries.Temporaries.{Temporaries}
 
 -- 0 wherever a list ends
-abbrev pub state_with : List ℤ → List (List ℤ) → List ℤ → List ℤ → State
-state_with base deltas named fresh (TempAt (Named n)) = at named n
-state_with base deltas named fresh (TempAt (Fresh n)) = at fresh n
-state_with base deltas named fresh (BaseAt x) = at base x
-state_with base deltas named fresh (DeltaAt x j) = at (slice_index_or deltas j []) x
+abbrev pub temps_of : Temporaries → Temp → ℤ
+unfolding definitions
+temps_of s (Named n) = values_of s.named.items n
+temps_of s (Fresh n) = values_of s.fresh.items n
+
+-- 0 wherever a list ends
+abbrev pub state_with : List ℤ → List (List ℤ) → (Temp → ℤ) → State
+state_with base deltas temps (TempAt t) = temps t
+state_with base deltas temps (BaseAt x) = values_of base x
+state_with base deltas temps (DeltaAt x j) = values_of (slice_index_or deltas j []) x
 
 -- a split database with temporaries 0
 abbrev pub state_of : Split → State
 unfolding definitions
-state_of s = state_with s.base.items (map (λ d. d.items) s.deltas.items) [] []
+state_of s = state_with s.base.items (map (λ d. d.items) s.deltas.items) (λ t. pos 0)
 
 -- two states have the same values at the base and the deltas
 abbrev pub AgreeOnNames : State → State → Type 0

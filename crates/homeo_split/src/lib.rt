@@ -12,6 +12,7 @@ mod shape;
 mod split;
 mod state;
 mod store;
+mod temporaries;
 
 pub use arithmetic::{minus, plus, times};
 pub use commands::run;
@@ -21,3 +22,4 @@ pub use reads::Reads;
 pub use runs::eval_l;
 pub use split::Split;
 pub use store::Store;
+pub use temporaries::Temporaries;

@@ -10,6 +10,7 @@ ghost use Rattle.homeo_split.specs.Shape.{shape_of, has_places};
 use crate::commands::run;
 use crate::split::Split;
 use crate::state::State;
+use crate::temporaries::Temporaries;
 use homeo_meaning::Database;
 use homeo_syntax::{LCommand, List, Memory, Prints};
 use std::alloc::Global;
@@ -61,8 +62,7 @@ pub fn eval_l(alloc: Global, c: &LCommand, database: &mut Split) -> Result<Print
     let mut state = State {
         base: copied(alloc, database.base.as_slice())?,
         deltas: copied_all(alloc, database.deltas.as_slice())?,
-        named: Vec::new(alloc),
-        fresh: Vec::new(alloc),
+        temporaries: Temporaries::new(alloc),
     };
     let mut prints = List::new(alloc);
     run(c, &mut state, &mut prints)?;

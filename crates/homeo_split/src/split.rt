@@ -24,11 +24,8 @@ impl Reads for Split {
     ghost values = { λ s. state_of s };
 
     #[tactic(auto, unfolding(crate::specs::Key::definitions))]
-    fn temp(&self, t: Temp) -> i64 {
-        match t {
-            Temp::Named(_) => 0,
-            Temp::Fresh(_) => 0,
-        }
+    fn temp(&self, _: Temp) -> i64 {
+        0
     }
 
     #[tactic(auto, unfolding(crate::specs::Key::definitions, homeo_meaning::specs::Key::definitions))]

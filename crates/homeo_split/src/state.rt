@@ -6,16 +6,16 @@ ghost use Rattle.homeo_split.specs.inner.States.{plain_state};
 
 use crate::reads::Reads;
 use crate::store::Store;
-use homeo_meaning::padded::{item_or, put};
+use crate::temporaries::Temporaries;
+use homeo_meaning::padded::item_or;
 use homeo_syntax::{Memory, SplitName, Temp};
 
-/// The values of the base, of the deltas by site, and of the temporaries, named and fresh.
+/// The values of the base, of the deltas by site, and of the temporaries.
 #[derive(Drop)]
 pub(crate) struct State {
     pub(crate) base: Vec<i64>,
     pub(crate) deltas: Vec<Vec<i64>>,
-    pub(crate) named: Vec<i64>,
-    pub(crate) fresh: Vec<i64>,
+    pub(crate) temporaries: Temporaries,
 }
 
 impl Reads for State {
@@ -25,10 +25,7 @@ impl Reads for State {
 
     #[tactic(auto, unfolding(crate::specs::Key::definitions))]
     fn temp(&self, t: Temp) -> i64 {
-        match t {
-            Temp::Named(n) => item_or(self.named.as_slice(), n as usize, 0),
-            Temp::Fresh(n) => item_or(self.fresh.as_slice(), n as usize, 0),
-        }
+        self.temporaries.get(t)
     }
 
     #[tactic(auto, unfolding(crate::specs::Key::definitions, homeo_meaning::specs::Key::definitions))]
@@ -51,10 +48,7 @@ impl Store for State {
     ghost leads_to = { λ s t. state_shape t ≡ state_shape s };
 
     fn assign(&mut self, t: Temp, v: i64) -> Result<(), Memory> {
-        match t {
-            Temp::Named(n) => put(&mut self.named, n as usize, v, 0),
-            Temp::Fresh(n) => put(&mut self.fresh, n as usize, v, 0),
-        }
+        self.temporaries.set(t, v)
     }
 
     fn write(&mut self, x: SplitName, v: i64) -> Result<(), Memory> {

@@ -4,11 +4,11 @@ use Rattle.homeo_meaning.specs.LowMeaning.{State}
 use Rattle.homeo_split.specs.declared.state.State as code
 use Rattle.homeo_split.specs.Key.{definitions}
 use Rattle.homeo_split.specs.Shape.{Shape}
-use Rattle.homeo_split.specs.States.{state_with}
+use Rattle.homeo_split.specs.States.{temps_of, state_with}
 
 abbrev pub plain_state : code.State → State
 unfolding definitions
-plain_state s = state_with s.base.items (map (λ d. d.items) s.deltas.items) s.named.items s.fresh.items
+plain_state s = state_with s.base.items (map (λ d. d.items) s.deltas.items) (temps_of s.temporaries)
 
 abbrev pub state_shape : code.State → Shape
 unfolding definitions

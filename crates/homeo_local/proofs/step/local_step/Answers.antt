@@ -19,20 +19,20 @@ use Rattle.homeo_local.proofs.step.local_step.Goals as goal
 pub run-requires-clause-runs : goal.run-requires-clause-runs
 unfolding definitions
 run-requires-clause-runs c =
-    let begun = begins c.args.base.now c.args.deltas.now _ _ _ c.in_ok-from_slice.ensures.items c.new.ensures.items c.new-2.ensures.items c.requires.sums in
+    let begun = begins c.args.base.now c.args.deltas.now _ c.new.ensures c.requires.sums _ c.in_ok-from_slice.ensures.items in
     ap (can_exec run_limit (plain_lcommand c.args.c.now)) begun ∙ c.requires.small
 
 pub returns-clause-prints : goal.returns-clause-prints
 unfolding definitions
 returns-clause-prints c =
-    let begun = begins c.args.base.now c.args.deltas.now _ _ _ c.in_ok-from_slice.ensures.items c.new.ensures.items c.new-2.ensures.items c.requires.sums in
+    let begun = begins c.args.base.now c.args.deltas.now _ c.new.ensures c.requires.sums _ c.in_ok-from_slice.ensures.items in
     left_prints _ _ _ _ c.in_ok-run.ensures.run
     ∙ (λ i. (c.new-prints.ensures i).items ++ (exec (plain_lcommand c.args.c.now) (begun i)).prints)
 
 pub returns-clause-deltas : goal.returns-clause-deltas
 unfolding definitions
 returns-clause-deltas c n fits =
-    let begun = begins c.args.base.now c.args.deltas.now _ _ _ c.in_ok-from_slice.ensures.items c.new.ensures.items c.new-2.ensures.items c.requires.sums in
+    let begun = begins c.args.base.now c.args.deltas.now _ c.new.ensures c.requires.sums _ c.in_ok-from_slice.ensures.items in
     let state = c.run.new.state in
     let ran = left_state _ _ _ _ c.in_ok-run.ensures.run in
     let is = ap (λ s. s (BaseAt n)) ran ∙ ap (λ s. (exec (plain_lcommand c.args.c.now) s).state (BaseAt n)) begun in

@@ -4,7 +4,7 @@ use Rattle.homeo_syntax.specs.LowView.{plain_lcommand}
 use Rattle.homeo_meaning.specs.LowMeaning.{location_of, exec}
 use Rattle.homeo_split.specs.Key.{definitions}
 use Rattle.homeo_split.specs.CanExec.{run_limit, can_exec}
-use Rattle.homeo_split.specs.States.{state_with}
+use Rattle.homeo_split.specs.States.{temps_of, state_with}
 use Rattle.homeo_split.specs.Shape.{has_places}
 use Rattle.homeo_split.proofs.CommandSteps.{left_state, left_prints}
 use Rattle.homeo_split.proofs.Copies.{same_lengths, without_temporaries}
@@ -23,7 +23,7 @@ unfolding definitions
 run-requires-clause-runs c =
     let base = c.in_ok-copied.ensures ∙ c.as_slice.ensures in
     let deltas = c.in_ok-copied_all.ensures ∙ ap (map (λ d. d.items)) c.as_slice-2.ensures in
-    (λ i. can_exec run_limit (plain_lcommand c.args.c.now) (state_with (base i) (deltas i) (c.new.ensures.items i) (c.new-2.ensures.items i))) ∙ c.requires.small
+    (λ i. can_exec run_limit (plain_lcommand c.args.c.now) (state_with (base i) (deltas i) (λ t. c.new.ensures t i))) ∙ c.requires.small
 
 pub returns-clause-prints : goal.returns-clause-prints
 unfolding definitions
@@ -31,7 +31,7 @@ returns-clause-prints c =
     let base = c.in_ok-copied.ensures ∙ c.as_slice.ensures in
     let deltas = c.in_ok-copied_all.ensures ∙ ap (map (λ d. d.items)) c.as_slice-2.ensures in
     left_prints _ _ _ _ c.in_ok-run.ensures.run
-    ∙ (λ i. (c.new-prints.ensures i).items ++ (exec (plain_lcommand c.args.c.now) (state_with (base i) (deltas i) (c.new.ensures.items i) (c.new-2.ensures.items i))).prints)
+    ∙ (λ i. (c.new-prints.ensures i).items ++ (exec (plain_lcommand c.args.c.now) (state_with (base i) (deltas i) (λ t. c.new.ensures t i))).prints)
 
 pub returns-clause-database : goal.returns-clause-database
 unfolding definitions
@@ -40,10 +40,10 @@ returns-clause-database c x =
     let deltas = c.in_ok-copied_all.ensures ∙ ap (map (λ d. d.items)) c.as_slice-2.ensures in
     let state = c.run.new.state in
     let ran = left_state _ _ _ _ c.in_ok-run.ensures.run in
-    without_temporaries _ _ state.named.items state.fresh.items x
-    ∙ (λ i. state_with (c.from_vec.ensures i).items (c.in_ok-deltas.ensures i) state.named.items state.fresh.items (location_of x))
+    without_temporaries _ _ (temps_of state.temporaries) x
+    ∙ (λ i. state_with (c.from_vec.ensures i).items (c.in_ok-deltas.ensures i) (temps_of state.temporaries) (location_of x))
     ∙ ap (λ s. s (location_of x)) ran
-    ∙ (λ i. (exec (plain_lcommand c.args.c.now) (state_with (base i) (deltas i) (c.new.ensures.items i) (c.new-2.ensures.items i))).state (location_of x))
+    ∙ (λ i. (exec (plain_lcommand c.args.c.now) (state_with (base i) (deltas i) (λ t. c.new.ensures t i))).state (location_of x))
 
 pub returns-clause-shape : goal.returns-clause-shape
 unfolding definitions

@@ -4,6 +4,7 @@ use Rattle.std.specs.Int.{int_wrap}
 use Rattle.std.proofs.lemmas.Grind.{common_steps}
 use Rattle.std.proofs.lemmas.Int.{wrapping_sub_is, SFits-int_wrap}
 use Rattle.std.proofs.lemmas.List.{length-set}
+use Rattle.homeo_split.specs.States.{temps_of}
 use Rattle.homeo_local.specs.inner.Key.{definitions}
 use Rattle.homeo_local.specs.inner.Own.{own_with}
 use Rattle.homeo_local.proofs.Owns.{set_object, stays_or_fits}
@@ -15,8 +16,8 @@ returns-clause-set c =
     let s = c.args.self.now in
     let base : SFits w64 c.item_or.result = search rules in
     let delta = wrapping_sub_is w64 c.args.v c.item_or.result c.ranges.v base ∙ ap (λ b. int_wrap w64 (c.args.v -ℤ b)) c.item_or.ensures in
-    ap (λ d. own_with s.base.now (set s.deltas.items c.args.x d) s.named.items s.fresh.items) delta
-    ∙ set_object s.base.now s.deltas.items c.args.x c.args.v c.requires c.ranges.v s.named.items s.fresh.items
+    ap (λ d. own_with s.base.now (set s.deltas.items c.args.x d) (temps_of s.temporaries)) delta
+    ∙ set_object s.base.now s.deltas.items c.args.x c.args.v c.requires c.ranges.v (temps_of s.temporaries)
 
 pub returns-clause-leads : goal.returns-clause-leads
 unfolding definitions

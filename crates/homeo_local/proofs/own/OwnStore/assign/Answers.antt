@@ -1,32 +1,14 @@
 -- A temporary is set.
-use Rattle.std.proofs.Common.{◌==◌, cond, get_or, pos, sym, ap, ◌∙◌, w64}
-use Rattle.std.proofs.lemmas.Int.{to_z-of_z}
+use Rattle.std.proofs.Common.{refl}
 use Rattle.std.proofs.lemmas.Result.{on_ok_weaker}
-use Rattle.homeo_meaning.specs.LowMeaning.{TempAt, put}
+use Rattle.homeo_split.proofs.States.{set_temp}
 use Rattle.homeo_local.specs.inner.Key.{definitions}
 use Rattle.homeo_local.specs.inner.Leads.{stays}
-use Rattle.homeo_local.specs.inner.Own.{plain_own}
-use Rattle.homeo_local.proofs.Owns.{set_named, set_fresh}
 use Rattle.homeo_local.proofs.own.OwnStore.assign.Goals as goal
 
-pub returns-in-Named-clause-leads : goal.returns-in-Named-clause-leads
-returns-in-Named-clause-leads c = on_ok_weaker c.put.result (λ _. stays c.args.self.now) c.put.ensures
+pub returns-clause-leads : goal.returns-clause-leads
+returns-clause-leads c = on_ok_weaker c.set.result (λ _. stays c.args.self.now) c.set.ensures
 
-pub returns-in-Named-clause-set : goal.returns-in-Named-clause-set
+pub returns-clause-set : goal.returns-clause-set
 unfolding definitions
-returns-in-Named-clause-set c =
-    let s = c.args.self.now in
-    let n = c.in-Named.n in
-    let v = to_z-of_z w64 c.args.v c.ranges.v in
-    on_ok_weaker c.put.result (λ h. set_named s.base.now s.deltas.items s.named.items s.fresh.items c.put.new.items.items n c.args.v (λ m. h m ∙ ap (λ u. cond (n == m) u (get_or s.named.items m (pos 0))) v) ∙ ap (λ t. put (plain_own s) (TempAt t) c.args.v) (sym c.in-Named.is)) c.put.ensures
-
-pub returns-in-Fresh-clause-leads : goal.returns-in-Fresh-clause-leads
-returns-in-Fresh-clause-leads c = on_ok_weaker c.put-in-Fresh.result (λ _. stays c.args.self.now) c.put-in-Fresh.ensures
-
-pub returns-in-Fresh-clause-set : goal.returns-in-Fresh-clause-set
-unfolding definitions
-returns-in-Fresh-clause-set c =
-    let s = c.args.self.now in
-    let n = c.in-Fresh.n in
-    let v = to_z-of_z w64 c.args.v c.ranges.v in
-    on_ok_weaker c.put-in-Fresh.result (λ h. set_fresh s.base.now s.deltas.items s.named.items s.fresh.items c.put-in-Fresh.new.items.items n c.args.v (λ m. h m ∙ ap (λ u. cond (n == m) u (get_or s.fresh.items m (pos 0))) v) ∙ ap (λ t. put (plain_own s) (TempAt t) c.args.v) (sym c.in-Fresh.is)) c.put-in-Fresh.ensures
+returns-clause-set c = on_ok_weaker c.set.result (λ h. set_temp _ _ c.args.t c.args.v c.ranges.v h (λ x. refl) (λ x j. refl)) c.set.ensures

@@ -6,7 +6,7 @@ use Rattle.std.specs.Vec.{with_item}
 use Rattle.homeo_meaning.specs.Key.{definitions as meaning_definitions}
 use Rattle.homeo_meaning.specs.LowMeaning.{location_of, put}
 use Rattle.homeo_split.specs.Key.{definitions}
-use Rattle.homeo_split.specs.States.{state_with}
+use Rattle.homeo_split.specs.States.{temps_of, state_with}
 use Rattle.homeo_split.specs.inner.States.{plain_state, state_shape}
 use Rattle.homeo_split.specs.Shape.{has_place}
 use Rattle.homeo_split.proofs.States.{has_base, set_base, site_is, object_is, same_lengths, set_site}
@@ -43,8 +43,8 @@ returns-in-Whole-clause-set c =
     let x = c.in-Whole.object in
     let ds = map (λ d. d.items) s.deltas.items in
     let has = subst (λ x. has_place (state_shape s) x ≡ true) c.in-Whole.is c.requires in
-    ap (λ v. state_with (set s.base.items x v) ds s.named.items s.fresh.items) (to_z-of_z w64 c.args.v c.ranges.v)
-    ∙ set_base s.base.items ds s.named.items s.fresh.items x c.args.v (has_base (state_shape s) x has)
+    ap (λ v. state_with (set s.base.items x v) ds (temps_of s.temporaries)) (to_z-of_z w64 c.args.v c.ranges.v)
+    ∙ set_base s.base.items ds (temps_of s.temporaries) x c.args.v (has_base (state_shape s) x has)
     ∙ ap (λ x. put (plain_state s) (location_of x) c.args.v) (sym c.in-Whole.is)
 
 pub returns-in-Base-clause-set : goal.returns-in-Base-clause-set
@@ -54,8 +54,8 @@ returns-in-Base-clause-set c =
     let x = c.in-Base.object in
     let ds = map (λ d. d.items) s.deltas.items in
     let has = subst (λ x. has_place (state_shape s) x ≡ true) c.in-Base.is c.requires in
-    ap (λ v. state_with (set s.base.items x v) ds s.named.items s.fresh.items) (to_z-of_z w64 c.args.v c.ranges.v)
-    ∙ set_base s.base.items ds s.named.items s.fresh.items x c.args.v (has_base (state_shape s) x has)
+    ap (λ v. state_with (set s.base.items x v) ds (temps_of s.temporaries)) (to_z-of_z w64 c.args.v c.ranges.v)
+    ∙ set_base s.base.items ds (temps_of s.temporaries) x c.args.v (has_base (state_shape s) x has)
     ∙ ap (λ x. put (plain_state s) (location_of x) c.args.v) (sym c.in-Base.is)
 
 pub index_mut-requires-in-Delta : goal.index_mut-requires-in-Delta
@@ -89,5 +89,5 @@ returns-in-Delta-clause-set c =
     let v = to_z-of_z w64 c.args.v c.ranges.v in
     let new = with_item here c.in-Delta.object (to_z w64 (of_z w64 c.args.v)) in
     let has = subst (λ x. has_place (state_shape s) x ≡ true) c.in-Delta.is c.requires in
-    set_site (λ d. d.items) s.deltas.items c.in-Delta.object c.in-Delta.site (length s.base.items) has here c.index_mut-in-Delta.ensures.value new c.args.v (ap (set here.items c.in-Delta.object) v) s.base.items s.named.items s.fresh.items
+    set_site (λ d. d.items) s.deltas.items c.in-Delta.object c.in-Delta.site (length s.base.items) has here c.index_mut-in-Delta.ensures.value new c.args.v (ap (set here.items c.in-Delta.object) v) s.base.items (temps_of s.temporaries)
     ∙ ap (λ x. put (plain_state s) (location_of x) c.args.v) (sym c.in-Delta.is)
