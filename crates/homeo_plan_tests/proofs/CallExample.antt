@@ -9,7 +9,6 @@ use Rattle.std.proofs.lemmas.List.{length-map}
 use Rattle.homeo_syntax.specs.Low.{Command}
 use Rattle.homeo_syntax.specs.Source.{Workload}
 use Rattle.homeo_syntax.specs.declared.low.SplitName.TheVariants.{Base, Delta}
-use Rattle.homeo_syntax.specs.declared.low.Temp.TheVariants.{Named, Fresh}
 use Rattle.homeo_meaning.specs.Key.{definitions as meaning_definitions}
 use Rattle.homeo_meaning.specs.Acceptance.{weight_limit as largest, IsAccepted}
 use Rattle.homeo_meaning.specs.Bounds.{AllWithin, IsWithin, all_bounds}
@@ -64,11 +63,11 @@ agreeing_parts k i a b s u agree h =
 
 -- ---- the database that the sites have not written yet
 abbrev started : List ℤ → State
-started database = state_with database (zeros database ∷ zeros database ∷ []) [] []
+started database = state_with database (zeros database ∷ zeros database ∷ []) (λ t. pos 0)
 
 start_is : (database : List ℤ) (s : Split) → IsUndivided database s → state_of s ≡ started database
 unfolding split_definitions
-start_is database s is = λ i. state_with (is.base i) (is.deltas i) [] []
+start_is database s is = λ i. state_with (is.base i) (is.deltas i) (λ t. pos 0)
 
 start_shape :
     (database : List ℤ) (s : Split) → IsUndivided database s →
@@ -80,8 +79,7 @@ start_shape database s is =
 
 no_temps : (database : List ℤ) → HasNoTemps (started database)
 unfolding definitions
-no_temps database (Named n) = refl
-no_temps database (Fresh n) = refl
+no_temps database t = refl
 
 delta_zero : (database : List ℤ) (x j : ℕ) → started database (DeltaAt x j) ≡ pos 0
 delta_zero database x zero = zeros_at (length database) x
