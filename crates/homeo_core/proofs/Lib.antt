@@ -1,3 +1,4 @@
+pub mod CallTests
 pub mod CallsMade
 pub mod ClosingCalls
 pub mod CoreStarts

@@ -1,13 +1,13 @@
 //! What a workload says of its sites and clients.
 
-ghost use Rattle.std.specs.Prelude.{◌≡◌, ◌<◌, ◌≤◌, ◌^◌, Some, pos, ◌≤ℤ◌, length, slice_get};
+ghost use Rattle.std.specs.Prelude.{◌≡◌, ◌<◌, ◌≤◌, ◌^◌, Some, pos, ◌≤ℤ◌, IsTrue, length, slice_get};
 ghost use Rattle.homeo_syntax.specs.SourceView.{plain_client, plain_workload};
 ghost use Rattle.homeo_meaning.specs.Acceptance.{IsAccepted};
 ghost use Rattle.homeo_meaning.specs.Schema.{nat_of};
 ghost use Rattle.homeo_plan.specs.Planned.{sites_of};
-ghost use Rattle.homeo_history.specs.Legal.{IsClientAt, call_count};
+ghost use Rattle.homeo_history.specs.Legal.{IsClientAt, IsCallAt, call_count};
 
-use homeo_meaning::Accepted;
+use homeo_meaning::{Accepted, CallId};
 use homeo_syntax::Client;
 
 /// How many sites there are, from 1 to 16.
@@ -34,6 +34,23 @@ pub fn site_of(w: &Accepted, client: u32) -> u32
     ensures { IsClientAt (plain_workload w.now) result client }
 {
     natural(client_of(w, client).site.value)
+}
+
+/// Whether a client at this site has the call.
+pub fn is_call_at(w: &Accepted, site: u32, call: CallId) -> bool
+    ensures yes { IsTrue result → IsCallAt (plain_workload w.now) site call }
+    ensures no { IsCallAt (plain_workload w.now) site call → IsTrue result }
+{
+    if u64::from(call.client) >= client_count(w) {
+        return false;
+    }
+    if call.seq == 0 {
+        return false;
+    }
+    if call.seq > call_count(w, call.client) {
+        return false;
+    }
+    site_of(w, call.client) == site
 }
 
 /// How many calls a client has.

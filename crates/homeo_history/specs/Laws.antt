@@ -10,7 +10,7 @@ use Rattle.homeo_plan.specs.Local.{no_deltas}
 use Rattle.homeo_history.specs.Key.{definitions}
 use Rattle.homeo_history.specs.History.{Round, History}
 use Rattle.homeo_history.specs.Merge.{segment_of}
-use Rattle.homeo_history.specs.Legal.{IsCallAt, IsAtSites, HasMerges, ClosesWith, base_or, AreSerial, IsLegalFrom}
+use Rattle.homeo_history.specs.Legal.{IsCallAt, IsAtSites, HasMerges, ClosesWith, base_or, AreSerial, IsLegalFrom, IsInOrder, IsSerialFrom, calls_of}
 use Rattle.homeo_history.specs.Replayed.{KeepsAll, fold_of, IsReplayed}
 use Rattle.homeo_history.specs.Follows.{Follows}
 use Rattle.homeo_history.specs.Answers.{answers_of, answers_to, IsAnswerIn}
@@ -62,3 +62,12 @@ abbrev pub AnswersStand : Type 0
 AnswersStand =
     (w : s.Workload) (start : List ℤ) (counts : List ℕ) (h : History) (client : ℕ) → IsLegalFrom w start counts h →
     AreAnswered h.rounds client (slice_index_or counts client 0)
+
+-- a legal history is a serial one whose calls are each client's first in order
+pub record LegalIsSerial (w : s.Workload) (start : List ℤ) (counts : List ℕ) (h : History) : Type 0 where
+  pub serial : IsLegalFrom w start counts h → IsSerialFrom w start h
+  pub ordered : IsLegalFrom w start counts h → IsInOrder w counts (calls_of h.rounds)
+  pub legal : IsSerialFrom w start h → IsInOrder w counts (calls_of h.rounds) → IsLegalFrom w start counts h
+
+abbrev pub Serially : Type 0
+Serially = (w : s.Workload) (start : List ℤ) (counts : List ℕ) (h : History) → LegalIsSerial w start counts h

@@ -113,6 +113,14 @@ unfolding definitions
 AreSerial w [] last = Unit {0}
 AreSerial w (r ∷ rounds) last = RunsTo w r (base_or rounds last) × AreSerial w rounds last
 
+-- ---- whatever the order in which clients made their calls
+-- a history from a database on whose rounds are serial, each call at its client's site; a call may stand there any number of times
+pub record IsSerialFrom (w : s.Workload) (start : List ℤ) (h : History) : Type 0 where
+  pub framed : IsFramed w start h.rounds
+  pub at_sites : All (IsAtSites w) h.rounds
+  pub serial : AreSerial w h.rounds h.last
+  pub replayed : All (IsReplayed w) h.rounds
+
 -- ---- all of it
 -- a history from a database on, of the first calls of each client, as many as counts says
 pub record IsLegalFrom (w : s.Workload) (start : List ℤ) (counts : List ℕ) (h : History) : Type 0 where

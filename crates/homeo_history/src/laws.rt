@@ -1,6 +1,6 @@
 //! What holds of merges, of histories, and of their answers.
 
-ghost use Rattle.homeo_history.specs.Laws.{MergeLaw, FoldWithin, ReplaysAreSerial, OneHistory, AnswersStand};
+ghost use Rattle.homeo_history.specs.Laws.{MergeLaw, FoldWithin, ReplaysAreSerial, OneHistory, AnswersStand, Serially};
 
 /// Where each segment of a round is of calls of clients at its site, which in the replay keep the site's treaty with
 /// the entries' prints, every merge of the segments, run on the round's base, gives these prints, and the fold of the
@@ -30,4 +30,9 @@ pub fn histories_are_one()
 /// close the round, and where it is `Cleanup`, the call closes the round with this finding.
 pub fn answers_stand()
     ensures { AnswersStand }
+{}
+
+/// A legal history is a serial one in which each client's calls are its first, in order, and the other way round.
+pub fn legal_histories_are_serial_in_order()
+    ensures { Serially }
 {}

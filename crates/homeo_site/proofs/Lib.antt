@@ -1,3 +1,5 @@
+pub mod AtDeltas
+pub mod BareSites
 pub mod CallsOfSites
 pub mod Earliest
 pub mod Limits
@@ -16,8 +18,8 @@ pub mod PartsMade
 pub mod PlanChecks
 pub mod PlanClauses
 pub mod SiteAttempts
-pub mod SiteViews
 pub mod SitesHold
+pub mod SiteViews
 pub mod StepFindings
 pub mod StepsRun
 pub mod TemplateClauses

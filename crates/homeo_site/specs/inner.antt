@@ -1,5 +1,7 @@
+pub mod Bare
 pub mod Failures
 pub mod OwnRound
 pub mod Parts
 pub mod PlanFailures
+pub mod Planning
 pub mod Ready

@@ -3,14 +3,18 @@
 #![tactic(auto)]
 
 mod attempts;
+mod bare;
 pub mod laws;
 mod lists;
 mod own_round;
 mod own_treaty;
+mod planner;
 mod site;
 mod start;
 
 pub use attempts::{Change, Outcome, Room};
+pub use bare::{BareSite, Ran};
 pub use own_treaty::own_sum;
+pub use planner::Planner;
 pub use site::Site;
 pub use start::SiteStart;

@@ -1,13 +1,17 @@
 //! What a site keeps of a round besides its deltas.
 
-ghost use Rattle.std.specs.Prelude.{◌≡◌, ◌<◌, ℕ, false, IfOk};
+ghost use Rattle.std.specs.Prelude.{◌≡◌, ◌<◌, ◌≤◌, ◌+ℤ◌, ℕ, false, length, IfOk};
 ghost use Rattle.homeo_syntax.specs.SourceView.{plain_workload};
+ghost use Rattle.homeo_meaning.specs.Acceptance.{IsAccepted};
+ghost use Rattle.homeo_meaning.specs.Bounds.{AllWithin, IsWithin};
+ghost use Rattle.homeo_meaning.specs.Schema.{schema_of};
 ghost use Rattle.homeo_meaning.specs.Serial.{values_of};
 ghost use Rattle.homeo_plan.specs.Planned.{sites_of, policy};
 ghost use Rattle.homeo_outline.specs.Numbers.{has};
 ghost use Rattle.homeo_outline.specs.ObjectPlan.{config_in};
 ghost use Rattle.homeo_build.specs.Plan.{IsObjectPlan};
 ghost use Rattle.homeo_history.specs.Legal.{IsCallAt};
+ghost use Rattle.homeo_history.specs.Replayed.{finding_at};
 ghost use Rattle.homeo_site.specs.SiteState.{step_prints, step_deltas, step_finding};
 ghost use Rattle.homeo_site.specs.inner.Ready.{IsReady, with_deltas, IsAfterStep};
 
@@ -92,6 +96,14 @@ impl OwnRound {
         self.round
     }
 
+    /// Lends the workload with what is fixed for all its rounds.
+    pub(crate) fn compiled(&self) -> &Compiled
+        ensures work { result.now ≡ self.now.work }
+        ensures accepted { IsAccepted (plain_workload self.now.work) }
+    {
+        &self.compiled
+    }
+
     /// Lends the plan of the round, which all sites share.
     pub(crate) fn plan(&self) -> &ObjectPlan
         ensures { IsObjectPlan (plain_workload self.now.work) self.now.base result.now }
@@ -126,5 +138,20 @@ impl OwnRound {
             result ≡ step_finding (plain_workload self.now.work) (with_deltas self.now s.before) s.call }
     {
         first_failure(&self.plan, self.site, written, deltas)
+    }
+
+    /// What fails first of the site's treaty at these deltas.
+    pub(crate) fn failure_at(&self, alloc: Global, deltas: &[i64]) -> Result<Option<Broken>, Memory>
+        requires within { AllWithin (schema_of (plain_workload self.now.work)) (λ n. values_of self.now.base n +ℤ values_of deltas.now n) }
+        requires count { length deltas.now ≡ length self.now.base }
+        requires base { IsWithin (schema_of (plain_workload self.now.work)) self.now.base }
+        requires few { length deltas.now ≤ 1024 }
+        ensures { IfOk result (λ o. o ≡ finding_at (plain_workload self.now.work) self.now.base self.now.number (values_of deltas.now)) }
+    {
+        let mut objects = Vec::new(alloc);
+        for object in 0..deltas.len() as u32 {
+            objects.push(object)?;
+        }
+        Ok(first_failure(&self.plan, self.site, objects.as_slice(), deltas))
     }
 }

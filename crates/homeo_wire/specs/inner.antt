@@ -1,5 +1,4 @@
 pub mod Driving
-pub mod Planning
 pub mod Reactions
 pub mod Ready
 pub mod Stale

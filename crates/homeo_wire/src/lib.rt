@@ -8,7 +8,6 @@ mod events;
 mod history;
 pub mod laws;
 mod node;
-mod planner;
 mod stale;
 mod states;
 mod wire;

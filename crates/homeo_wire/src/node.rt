@@ -14,12 +14,11 @@ ghost use Rattle.homeo_wire.specs.inner.Ready.{CanSettle, CanTake, IsFrom, count
 use crate::breach::{Breach, Mode};
 use crate::closing::{Next, close};
 use crate::events::{Packet, Step};
-use crate::planner::Planner;
 use crate::states::{copy_values, has_state, states_with};
 use homeo_history::{Closing, Segment};
 use homeo_meaning::{CallId, Database};
 use homeo_round::{Tried, try_call};
-use homeo_site::Site;
+use homeo_site::{Planner, Site};
 use homeo_syntax::{List, Memory};
 use std::alloc::Global;
 use std::mem;

@@ -2,7 +2,7 @@ use Rattle.std.proofs.Common.{◌≡◌, sym, ap, subst, ◌∙◌}
 use Rattle.std.specs.Prelude.{IfOk}
 use Rattle.std.specs.Cmp.Rules.{signed_items}
 use Rattle.homeo_outline.specs.declared.plan.ObjectPlan.{ObjectPlan}
-use Rattle.homeo_wire.proofs.planner.Planner.start.Goals as goal
+use Rattle.homeo_site.proofs.planner.Planner.start.Goals as goal
 
 pub returns-then-eq-clause-start : goal.returns-then-eq-clause-start
 returns-then-eq-clause-start c =

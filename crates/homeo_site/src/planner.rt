@@ -7,13 +7,13 @@ ghost use Rattle.homeo_meaning.specs.Schema.{schema_of};
 ghost use Rattle.homeo_plan.specs.Planned.{sites_of, policy};
 ghost use Rattle.homeo_outline.specs.ObjectPlan.{config_in};
 ghost use Rattle.homeo_build.specs.Plan.{IsObjectPlan};
-ghost use Rattle.homeo_wire.specs.inner.Planning.{IsPlan};
+ghost use Rattle.homeo_site.specs.inner.Planning.{IsPlan};
 
+use crate::start::SiteStart;
 use homeo_build::Compiled;
 use homeo_build::treaties::{plan_after, plan_at};
 use homeo_meaning::Database;
 use homeo_outline::ObjectPlan;
-use homeo_site::SiteStart;
 use homeo_syntax::Memory;
 use std::alloc::Global;
 use std::marker::Model;
@@ -22,7 +22,7 @@ use std::sync::Arc;
 /// A workload with the plan that was made last for one of its rounds. All nodes that go on to a round have one base, so the plan
 /// that the first of them makes serves the others.
 #[derive(Drop)]
-pub(crate) struct Planner {
+pub struct Planner {
     compiled: Arc<Compiled>,
     last: Option<Arc<ObjectPlan>>,
 }
@@ -32,7 +32,7 @@ impl Model for Planner {
     ghost use Rattle.homeo_syntax.specs.declared.workload.Workload.{Workload};
     ghost use Rattle.homeo_syntax.specs.contracts.workload.Workload.{the_row};
     ghost use Rattle.homeo_syntax.specs.SourceView.{plain_workload};
-    ghost use Rattle.homeo_wire.specs.inner.Planning.{IsPlan};
+    ghost use Rattle.homeo_site.specs.inner.Planning.{IsPlan};
 
     ghost Value = { Workload };
 
@@ -45,7 +45,7 @@ impl Model for Planner {
 
 impl Planner {
     /// A planner that has made no plan. It takes no memory.
-    pub(crate) fn new(compiled: Arc<Compiled>) -> Planner
+    pub fn new(compiled: Arc<Compiled>) -> Planner
         ensures { result ≡ compiled.value }
     {
         Planner {
@@ -55,7 +55,7 @@ impl Planner {
     }
 
     /// Lends the workload with what is fixed for all its rounds.
-    pub(crate) fn compiled(&self) -> &Compiled
+    pub fn compiled(&self) -> &Compiled
         ensures { result.now ≡ self.now }
     {
         &self.compiled
@@ -67,7 +67,7 @@ impl Planner {
     /// # Errors
     ///
     /// `Memory` when out of memory.
-    pub(crate) fn start(
+    pub fn start(
         &mut self,
         alloc: Global,
         base: &Database,

@@ -1,0 +1,3 @@
+pub mod inner
+pub mod Key
+pub mod LiveView

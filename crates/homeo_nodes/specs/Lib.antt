@@ -1,0 +1,9 @@
+pub mod Brief
+pub mod Coming
+pub mod Key
+pub mod Laws
+pub mod Making
+pub mod Nodes
+pub mod Ordered
+pub mod Small
+pub mod Told
