@@ -10,7 +10,7 @@ use Rattle.homeo.specs.declared.status.Status.TheVariants.{Done, Usage, Refused,
 abbrev pub Serves : Status → (left left' taken taken' : Option (List ℕ)) → Type 0
 Serves Done left left' taken taken' = ServedAll left left' taken taken'
 Serves Usage left left' taken taken' = ⊥
-Serves Refused left left' taken taken' = (r : Refusal) × ServedTo r left left' taken taken'
+Serves Refused left left' taken taken' = ((r : Refusal) × ServedTo r left left' taken taken') × ServedEarly left left' taken taken'
 Serves Memory left left' taken taken' = ServedEarly left left' taken taken'
 Serves ReadFault left left' taken taken' = ServedSoFar left left' taken taken'
 Serves WriteFault left left' taken taken' = ServedPart left left' taken taken'

@@ -8,7 +8,7 @@ use Rattle.homeo_site.specs.SiteState.{step_finding}
 use Rattle.homeo_wire.specs.declared.breach.Breach.{Breach}
 use Rattle.homeo_wire.specs.declared.events.Event.{Event}
 use Rattle.homeo_wire.specs.Key.{definitions}
-use Rattle.homeo_wire.specs.Nodes.{Packet, Want, Stop, State, round_of, Journal, Node, is_running, Step, Kept, Wanted, Held, Taken, Ignored, World, happens, reached}
+use Rattle.homeo_wire.specs.Nodes.{Packet, Want, Stop, State, round_of, Journal, Node, is_running, is_stopped, Step, Kept, Wanted, Held, Taken, Ignored, World, happens, reached}
 use Rattle.homeo_wire.specs.Read.{journals, history_in, counts_in}
 
 -- two nodes that are in one round have one base
@@ -56,7 +56,9 @@ pub record AreKept (w : s.Workload) (x : World) : Type 0 where
       round_of p ≤ n.journal.site.round
   pub waits : (b : Breach) (n : Node) → Contains x.packets (Want b) → slice_get x.nodes b.site ≡ Some n →
       n.journal.site.round ≡ b.round → IsWaiting w b n
-  -- a node's deltas are those of the state that it has sent in its round
+  -- who has sent a state in its round is stopped, and its deltas are those of the state
+  pub stopped : (r i : ℕ) (d : List ℤ) (n : Node) → Contains x.packets (State r i d) → slice_get x.nodes i ≡ Some n →
+      n.journal.site.round ≡ r → is_stopped n.mode ≡ true
   pub deltas : (r i : ℕ) (d : List ℤ) (n : Node) → Contains x.packets (State r i d) → slice_get x.nodes i ≡ Some n →
       n.journal.site.round ≡ r → n.journal.site.deltas ≡ d
   -- of a round that a node has left, the states of all sites were sent
