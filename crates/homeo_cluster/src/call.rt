@@ -21,7 +21,7 @@ impl<N: ClusterNaming> Cluster<N> {
     ///
     /// # Errors
     ///
-    /// `Memory` when out of memory. The pass is as it was, and nothing was called.
+    /// `Memory` when out of memory. The pass is as it was, and no call was made, though the gate may have been told of it.
     pub fn call<R: Wait, G: Gate>(
         &self,
         rt: &R,
