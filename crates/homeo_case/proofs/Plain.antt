@@ -43,6 +43,9 @@ pub record IsPlainNode (m : Node) : Type 0 where
   pub stopped : (u : Breach) → m.mode ≡ Stopped u → drop (own_count m u) m.queue ≡ []
 
 -- ---- lists
+abbrev no_said : Said
+no_said = record { deltas = []; calls = [] }
+
 pub drop_take : {X : Type 0} (n : ℕ) (xs : List X) → drop n (take n xs) ≡ []
 drop_take zero [] = refl
 drop_take zero (x ∷ xs) = refl
@@ -66,6 +69,10 @@ kept_by false xs = take_none xs
 pub withdrawn_none : (u : Breach) (site : ℕ) (deltas : List ℤ) (queue : List CallId) → calls_at u site (record { deltas = deltas; calls = take (cond (site == u.site) 1 0) queue }) ≡ []
 withdrawn_none u site deltas queue = kept_by (site == u.site) queue
 
+none_said : (t : Bool) → cond t (rest_of (no_said.calls)) no_said.calls ≡ []
+none_said true = refl
+none_said false = refl
+
 -- ---- the end of a round
 one_of : (t : Bool) (call : CallId) → length (cond t (call ∷ []) [] ++ []) ≡ cond t 1 0
 one_of true call = refl
@@ -83,11 +90,7 @@ module _ (w : s.Workload) (ns : List Node) (ps : List Packet) (holds : Holds w n
       subst (λ b. calls_at b k said ≡ []) (holds.talk.one.stop p.by u p.stop own.0 (p.round ∙ sym own.1)) p.none
 
   no_calls : (o : Option Said) → slice_get all m.journal.site.number ≡ o → calls_at u m.journal.site.number (slice_index_or all m.journal.site.number (record { deltas = []; calls = [] })) ≡ []
-  no_calls None e = ap (calls_at u m.journal.site.number) (get_past all m.journal.site.number (record { deltas = []; calls = [] }) e) ∙ none_at (m.journal.site.number == u.site)
-    where
-      none_at : (t : Bool) → cond t [] [] ≡ []
-      none_at true = refl
-      none_at false = refl
+  no_calls None e = ap (calls_at u m.journal.site.number) (get_past all m.journal.site.number (record { deltas = []; calls = [] }) e) ∙ none_said (m.journal.site.number == u.site)
   no_calls (Some said) e =
       ap (calls_at u m.journal.site.number) (get_index all m.journal.site.number said (record { deltas = []; calls = [] }) e)
       ∙ nothing_carried m.journal.site.number said e

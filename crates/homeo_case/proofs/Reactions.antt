@@ -77,9 +77,11 @@ pub none_kept : (count : ℕ) → replicate count None ≡ map wired_state (repl
 none_kept zero = refl
 none_kept (suc count) = ap (λ xs. None ∷ xs) (none_kept count)
 
-pub drop_nil : {X : Type 0} (k : ℕ) → drop {X} k [] ≡ []
-drop_nil zero = refl
-drop_nil (suc k) = refl
+drop_nil : {X : Type 0} (k : ℕ) (xs : List X) → xs ≡ [] → drop k xs ≡ []
+drop_nil zero [] e = refl
+drop_nil zero (x ∷ xs) e = e
+drop_nil (suc k) [] e = refl
+drop_nil (suc k) (x ∷ xs) e = absurd (cc)
 
 -- ---- what both do
 pub record Agrees (ps : List n.Packet) (r : d.Reaction) (q : n.Reaction) : Type 0 where
@@ -103,11 +105,11 @@ module _ (w : s.Workload) (ps : List n.Packet) (plain : ArePlain ps) (m : n.Node
   }
 
   pub tried_agrees : (o : Option Broken) → Agrees ps (d.tried w (wired m left made) call o) (n.tried w taken_on call [] o)
-  unfolding node_definitions wire_definitions
+  unfolding node_definitions wire_definitions site_definitions
   tried_agrees None = record {
     node = record { left = left; made = slice_set made call.client call.seq; node = refl; left_is = lefts };
     sends = refl;
-    own = record { running = λ e. refl; stopped = λ u e. drop_nil (own_count m u) };
+    own = record { running = λ e. refl; stopped = λ u e. drop_nil (own_count m u) [] refl };
     packets = same_packets ps plain;
   }
   tried_agrees (Some broken) =
@@ -139,6 +141,7 @@ module _ (w : s.Workload) (ns : List n.Node) (ps : List n.Packet) (holds : Holds
     then = n.closed w u all m.journal
 
     then_is : then ≡ record { site = renewed (n.next_of w u all m.journal) m.journal.site; left = m.journal.left ++ n.newest w u all m.journal ∷ []; asked = m.journal.asked }
+    unfolding node_definitions
     then_is = plain_closes w u all m.journal (nothing_carried w ns ps holds plain i m here u all stop states)
 
     abbrev left_then : List d.Left
@@ -197,10 +200,10 @@ module _ (w : s.Workload) (ns : List n.Node) (ps : List n.Packet) (holds : Holds
 
 -- ---- a packet
 module _ (w : s.Workload) (ns : List n.Node) (ps : List n.Packet) (accepted : IsAccepted w) (holds : Holds w ns ps) (plain : ArePlain ps) (i : ℕ) (m : n.Node) (here : slice_get ns i ≡ Some m) (own : IsPlainNode m) (left : List d.Left) (made : List ℕ) (lefts : map closed_left left ≡ m.journal.left) where
-  abbrev v : d.Node
-  v = wired m left made
+  abbrev of_wire : d.Node
+  of_wire = wired m left made
 
-  idle : (a : d.Step) (b : n.Step) → Agrees ps (d.stays v a) (n.stays m b)
+  idle : (a : d.Step) (b : n.Step) → Agrees ps (d.stays of_wire a) (n.stays m b)
   idle a b = record {
     node = record { left = left; made = made; node = refl; left_is = lefts };
     sends = refl;
@@ -208,7 +211,7 @@ module _ (w : s.Workload) (ns : List n.Node) (ps : List n.Packet) (accepted : Is
     packets = same_packets ps plain;
   }
 
-  want_agrees : (b : Breach) (t : Bool) → Agrees ps (cond t (record { node = record v { decided = true }; sends = d.Stop (wired_breach b) ∷ []; step = d.Taken }) (d.stays v d.Ignored)) (cond t (record { node = record m { decided = Some b }; sends = n.Stop b ∷ []; step = n.Taken }) (n.stays m n.Ignored))
+  want_agrees : (b : Breach) (t : Bool) → Agrees ps (cond t (record { node = record of_wire { decided = true }; sends = d.Stop (wired_breach b) ∷ []; step = d.Taken }) (d.stays of_wire d.Ignored)) (cond t (record { node = record m { decided = Some b }; sends = n.Stop b ∷ []; step = n.Taken }) (n.stays m n.Ignored))
   want_agrees b true = record {
     node = record { left = left; made = made; node = refl; left_is = lefts };
     sends = refl;
@@ -219,12 +222,12 @@ module _ (w : s.Workload) (ns : List n.Node) (ps : List n.Packet) (accepted : Is
 
   -- ---- a state
   module _ (k : ℕ) (said : n.Said) (sent : Sent ps (n.State m.journal.site.round k said)) where
-    keeps : Settles (d.settled w (d.keeping v k said.deltas)) (n.settled w (n.keeping m k said))
+    keeps : Settles (d.settled w (d.keeping of_wire k said.deltas)) (n.settled w (n.keeping m k said))
     unfolding node_definitions wire_definitions
     keeps =
-        subst (λ (states : List (Option (List ℤ))). Settles (d.settled w (record v { states = states })) (n.settled w (n.keeping m k said))) (map_set wired_state m.states k (Some said)) (settles w (slice_set ns i (n.keeping m k said)) (ps ++ []) (keep_holds w ns ps accepted holds i m here (n.State m.journal.site.round k said) sent refl m.journal.site.round k said refl) (same_packets ps plain) i (n.keeping m k said) (get_set_same ns i m (n.keeping m k said) here) (record { running = own.running; stopped = own.stopped }) left made lefts)
+        subst (λ (states : List (Option (List ℤ))). Settles (d.settled w (record of_wire { states = states })) (n.settled w (n.keeping m k said))) (map_set wired_state m.states k (Some said)) (settles w (slice_set ns i (n.keeping m k said)) (ps ++ []) (keep_holds w ns ps accepted holds i m here (n.State m.journal.site.round k said) sent refl m.journal.site.round k said refl) (same_packets ps plain) i (n.keeping m k said) (get_set_same ns i m (n.keeping m k said) here) (record { running = own.running; stopped = own.stopped }) left made lefts)
 
-    state_agrees : (t : Bool) → Agrees ps (cond t (d.stays v d.Ignored) (record { node = d.settled w (d.keeping v k said.deltas); sends = []; step = d.Taken })) (cond t (n.stays m n.Ignored) (record { node = n.settled w (n.keeping m k said); sends = []; step = n.closing_step w (n.keeping m k said) }))
+    state_agrees : (t : Bool) → Agrees ps (cond t (d.stays of_wire d.Ignored) (record { node = d.settled w (d.keeping of_wire k said.deltas); sends = []; step = d.Taken })) (cond t (n.stays m n.Ignored) (record { node = n.settled w (n.keeping m k said); sends = []; step = n.closing_step w (n.keeping m k said) }))
     state_agrees true = idle d.Ignored n.Ignored
     state_agrees false = record { node = keeps.node; sends = refl; own = keeps.own; packets = same_packets ps plain }
 
@@ -265,32 +268,32 @@ module _ (w : s.Workload) (ns : List n.Node) (ps : List n.Packet) (accepted : Is
           subst (λ a. drop (cond (m.journal.site.number == a.site) 1 0) (n.withdrawing m b).queue ≡ []) same (drop_take (cond (m.journal.site.number == b.site) 1 0) m.queue);
     }
 
-    stops : Settles (d.settled w (d.stopped v (wired_breach b))) (n.settled w n')
+    stops : Settles (d.settled w (d.stopped of_wire (wired_breach b))) (n.settled w n')
     unfolding node_definitions wire_definitions
     stops =
-        subst (λ (states : List (Option (List ℤ))). Settles (d.settled w (record v { mode = variant.Stopped (wired_breach b); states = states })) (n.settled w n')) (map_set wired_state m.states m.journal.site.number (Some (n.said_by m'))) (settles w (slice_set ns i n') (ps ++ state ∷ []) (withdraw_holds w ns ps accepted holds i m here b sent round free) packets_then i n' (get_set_same ns i m n' here) own_then left made lefts)
+        subst (λ (states : List (Option (List ℤ))). Settles (d.settled w (record of_wire { mode = variant.Stopped (wired_breach b); states = states })) (n.settled w n')) (map_set wired_state m.states m.journal.site.number (Some (n.said_by m'))) (settles w (slice_set ns i n') (ps ++ state ∷ []) (withdraw_holds w ns ps accepted holds i m here b sent round free) packets_then i n' (get_set_same ns i m n' here) own_then left made lefts)
 
-    stop_agrees : Agrees ps (record { node = d.settled w (d.stopped v (wired_breach b)); sends = d.State m.journal.site.round m.journal.site.number m.journal.site.deltas ∷ []; step = d.Taken }) (record { node = n.settled w n'; sends = state ∷ []; step = n.closing_step w n' })
+    stop_agrees : Agrees ps (record { node = d.settled w (d.stopped of_wire (wired_breach b)); sends = d.State m.journal.site.round m.journal.site.number m.journal.site.deltas ∷ []; step = d.Taken }) (record { node = n.settled w n'; sends = state ∷ []; step = n.closing_step w n' })
     unfolding node_definitions
     stop_agrees = record { node = stops.node; sends = refl; own = stops.own; packets = packets_then }
 
   -- ---- any packet that was sent
-  comes_want : (b : Breach) (t : Bool) → Agrees ps (cond t (d.taken w v (d.Want (wired_breach b))) (d.stays v d.Ignored)) (cond t (n.taken w m (n.Want b)) (n.stays m n.Ignored))
+  comes_want : (b : Breach) (t : Bool) → Agrees ps (cond t (d.taken w of_wire (d.Want (wired_breach b))) (d.stays of_wire d.Ignored)) (cond t (n.taken w m (n.Want b)) (n.stays m n.Ignored))
   unfolding node_definitions wire_definitions
   comes_want b true =
       want_agrees b ((m.journal.site.number == (m.journal.site.round % sites_of w)) && not (is_some m.decided))
   comes_want b false = idle d.Ignored n.Ignored
 
-  comes_state : (r k : ℕ) (said : n.Said) → Sent ps (n.State r k said) → (t : Bool) → (r == m.journal.site.round) ≡ t → Agrees ps (cond t (d.taken w v (d.State r k said.deltas)) (d.stays v d.Ignored)) (cond t (n.taken w m (n.State r k said)) (n.stays m n.Ignored))
+  comes_state : (r k : ℕ) (said : n.Said) → Sent ps (n.State r k said) → (t : Bool) → (r == m.journal.site.round) ≡ t → Agrees ps (cond t (d.taken w of_wire (d.State r k said.deltas)) (d.stays of_wire d.Ignored)) (cond t (n.taken w m (n.State r k said)) (n.stays m n.Ignored))
   unfolding node_definitions wire_definitions
   comes_state r k said sent true e =
-      subst (λ t. Agrees ps (cond t (d.stays v d.Ignored) (record { node = d.settled w (d.keeping v k said.deltas); sends = []; step = d.Taken })) (n.taken w m (n.State r k said))) (sym (has_same m.states k)) (state_agrees k said (subst (λ a. Sent ps (n.State a k said)) (is_true r m.journal.site.round e) sent) (n.has_state m.states k))
+      subst (λ t. Agrees ps (cond t (d.stays of_wire d.Ignored) (record { node = d.settled w (d.keeping of_wire k said.deltas); sends = []; step = d.Taken })) (n.taken w m (n.State r k said))) (sym (has_same m.states k)) (state_agrees k said (subst (λ a. Sent ps (n.State a k said)) (is_true r m.journal.site.round e) sent) (n.has_state m.states k))
   comes_state r k said sent false e = idle d.Ignored n.Ignored
 
   module _ (b : Breach) (sent : Sent ps (n.Stop b)) where
     abbrev dstop : d.Reaction
     dstop =
-        record { node = d.settled w (d.stopped v (wired_breach b)); sends = d.State m.journal.site.round m.journal.site.number m.journal.site.deltas ∷ []; step = d.Taken }
+        record { node = d.settled w (d.stopped of_wire (wired_breach b)); sends = d.State m.journal.site.round m.journal.site.number m.journal.site.deltas ∷ []; step = d.Taken }
 
     taken_is : (b.round == m.journal.site.round) ≡ true → n.is_stopped m.mode ≡ false → n.received w (n.Stop b) (n.withdrawing m b) ≡ record { node = n.settled w (n.stopped (n.withdrawing m b) b); sends = n.State m.journal.site.round m.journal.site.number (n.said_by (n.withdrawing m b)) ∷ []; step = n.closing_step w (n.stopped (n.withdrawing m b) b) }
     unfolding node_definitions
@@ -313,17 +316,17 @@ module _ (w : s.Workload) (ns : List n.Node) (ps : List n.Packet) (accepted : Is
     unfolding node_definitions
     other_is e = cond_false (b.round == m.journal.site.round) (n.taken w m (n.Stop b)) (n.stays m n.Ignored) e
 
-    comes_stop : (t u : Bool) → (b.round == m.journal.site.round) ≡ t → n.is_stopped m.mode ≡ u → Agrees ps (cond t (cond u (d.stays v d.Ignored) dstop) (d.stays v d.Ignored)) (n.received w (n.Stop b) (cond (t && not u) (n.withdrawing m b) m))
+    comes_stop : (t u : Bool) → (b.round == m.journal.site.round) ≡ t → n.is_stopped m.mode ≡ u → Agrees ps (cond t (cond u (d.stays of_wire d.Ignored) dstop) (d.stays of_wire d.Ignored)) (n.received w (n.Stop b) (cond (t && not u) (n.withdrawing m b) m))
     comes_stop true true e f =
-        subst (Agrees ps (d.stays v d.Ignored)) (sym (ignored_is true e (again_is f))) (idle d.Ignored n.Ignored)
+        subst (Agrees ps (d.stays of_wire d.Ignored)) (sym (ignored_is true e (again_is f))) (idle d.Ignored n.Ignored)
     comes_stop true false e f =
         subst (Agrees ps dstop) (sym (taken_is e f)) (stop_agrees b sent (is_true b.round m.journal.site.round e) (λ g. let h : true ≡ false = sym g ∙ f in cc))
-    comes_stop false true e f = subst (Agrees ps (d.stays v d.Ignored)) (sym (other_is e)) (idle d.Ignored n.Ignored)
-    comes_stop false false e f = subst (Agrees ps (d.stays v d.Ignored)) (sym (other_is e)) (idle d.Ignored n.Ignored)
+    comes_stop false true e f = subst (Agrees ps (d.stays of_wire d.Ignored)) (sym (other_is e)) (idle d.Ignored n.Ignored)
+    comes_stop false false e f = subst (Agrees ps (d.stays of_wire d.Ignored)) (sym (other_is e)) (idle d.Ignored n.Ignored)
 
-  pub comes : (p : n.Packet) → Sent ps p → Agrees ps (d.received w (wired_packet p) v) (n.received w p (n.withdrawn p m))
+  pub comes : (p : n.Packet) → Sent ps p → Agrees ps (d.received w (wired_packet p) of_wire) (n.received w p (n.withdrawn p m))
   unfolding node_definitions wire_definitions
   comes (n.Want b) sent = comes_want b (b.round == m.journal.site.round)
   comes (n.State r k said) sent = comes_state r k said sent (r == m.journal.site.round) refl
   comes (n.Stop b) sent =
-      subst (λ u. Agrees ps (cond (b.round == m.journal.site.round) (cond u (d.stays v d.Ignored) (dstop b sent)) (d.stays v d.Ignored)) (n.received w (n.Stop b) (n.withdrawn (n.Stop b) m))) (sym (stopped_same m.mode)) (comes_stop b sent (b.round == m.journal.site.round) (n.is_stopped m.mode) refl refl)
+      subst (λ u. Agrees ps (cond (b.round == m.journal.site.round) (cond u (d.stays of_wire d.Ignored) (dstop b sent)) (d.stays of_wire d.Ignored)) (n.received w (n.Stop b) (n.withdrawn (n.Stop b) m))) (sym (stopped_same m.mode)) (comes_stop b sent (b.round == m.journal.site.round) (n.is_stopped m.mode) refl refl)

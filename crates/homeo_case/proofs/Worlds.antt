@@ -26,7 +26,7 @@ use Rattle.homeo_wire.specs.declared.events.Event.TheVariants.{Call, Deliver}
 use Rattle.homeo_wire.specs.Nodes as d
 use Rattle.homeo_case.specs.Case.{wired_packet, wired_state, closed_left, wired, IsWired, AreWired, IsCase}
 use Rattle.homeo_case.proofs.Plain.{ArePlain, IsPlainNode}
-use Rattle.homeo_case.proofs.Reactions.{running_same, Agrees, taken_on, tried_agrees, comes, none_kept, drop_nil}
+use Rattle.homeo_case.proofs.Reactions.{running_same, Agrees, taken_on, tried_agrees, comes, none_kept}
 
 record Meets (w : s.Workload) (x : d.World) (y : n.World) : Type 0 where
   pub are : AreWired x y
