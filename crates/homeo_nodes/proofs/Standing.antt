@@ -29,6 +29,7 @@ use Rattle.homeo_nodes.proofs.Sending.{Sent}
 use Rattle.homeo_nodes.proofs.Followed.{made_follows, first_follows}
 use Rattle.homeo_nodes.proofs.InHistory.{answered}
 use Rattle.homeo_nodes.proofs.Made.{JointHolds}
+use Rattle.homeo_nodes.proofs.Places.{take_first}
 use Rattle.homeo_nodes.proofs.Reacting.{running_not_stopped}
 use Rattle.homeo_nodes.proofs.Settling.{behind_stopped}
 use Rattle.homeo_nodes.proofs.Starting.{joint_joined, start_holds}
@@ -67,13 +68,6 @@ module _ (w : s.Workload) (start : List ℤ) (b : BookState) (sites : List SiteS
   }
 
 -- ---- lists
-take_first : {X : Type 0} (xs ys : List X) (n : ℕ) → n ≡ length xs → take n (xs ++ ys) ≡ xs
-take_first [] [] zero e = refl
-take_first [] (y ∷ ys) zero e = refl
-take_first [] ys (suc n) e = absurd (omega (arith, e))
-take_first (x ∷ xs) ys zero e = absurd (omega (arith, e))
-take_first (x ∷ xs) ys (suc n) e = ap (λ l. x ∷ l) (take_first xs ys n (omega (arith, e)))
-
 -- what stands before an item of a mapped list is mapped from what stands before it there
 record Found {X Y : Type 0} (f : X → Y) (before : List Y) (y : Y) (xs : List X) : Type 0 where
   pub item : X
