@@ -27,12 +27,12 @@ then_one w own c a = record {
 
 all_push : (w : source.Workload) (own : ℕ) (cs : List n.Called) (c : n.Called) (b : Brief) → briefly_all w own (cs ++ c ∷ []) b ≡ then_one w own c (briefly_all w own cs b)
 unfolding definitions
-all_push w own [] c b = ap (λ as. record { brief = (briefly w own c b).brief; answers = as }) (append-nil (briefly w own c b).answers)
+all_push w own [] c b = ap (λ rs. record { brief = (briefly w own c b).brief; answers = rs }) (append-nil (briefly w own c b).answers)
 all_push w own (d ∷ cs) c b =
     let one : Answered = briefly w own d b in
     let most : Answered = briefly_all w own cs one.brief in
     ap (λ (a : Answered). record { brief = a.brief; answers = one.answers ++ a.answers }) (all_push w own cs c one.brief)
-    ∙ ap (λ as. record { brief = (briefly w own c most.brief).brief; answers = as }) (sym (append_assoc one.answers most.answers (briefly w own c most.brief).answers))
+    ∙ ap (λ rs. record { brief = (briefly w own c most.brief).brief; answers = rs }) (sym (append_assoc one.answers most.answers (briefly w own c most.brief).answers))
 
 more_then : (a b c : Answers) (xs ys : List Answer) → AreMore a b xs → AreMore b c ys → AreMore a c (xs ++ ys)
 more_then a b c xs ys ab bc = record {

@@ -67,6 +67,7 @@ module _ (work : Workload) (u : Breach) (states : List Said) (x : SiteState) (lo
         omega (arith, below, taken, led, few, early)
 
     pub can_make_all : CanMakeAll w x.number (carried w u said) start
+    unfolding definitions
     can_make_all k c e = record {
       call = call_at w (carried w u said) k c can.calls e;
       sums = λ m. brief_within w u said j (take k (carried w u said)) (drop k (carried w u said)) m accepted all_said lt can (sym (take-append-drop k (carried w u said)));
@@ -123,7 +124,7 @@ module _ (work : Workload) (u : Breach) (states : List Said) (x : SiteState) (lo
       answers_are : map plain_answer made.answers.given.items ≡ answers_then w u said j
       answers_are =
           ends.answers.given
-          ∙ ap (λ as. as ++ end.answers) (goes_on.answers.given ∙ ap (λ as. as ++ first.answers) empty)
+          ∙ ap (λ rs. rs ++ end.answers) (goes_on.answers.given ∙ ap (λ rs. rs ++ first.answers) empty)
           ∙ sym brief.answers
 
       module _ (holds : IsOf work made) where
@@ -136,5 +137,5 @@ module _ (work : Workload) (u : Breach) (states : List Said) (x : SiteState) (lo
             record {
               work_is = ap (λ (z : BareValue). z.work) at;
               state = ap (λ (z : BareValue). z.state) at ∙ site_then (brief_of made) made.answers.own ends.brief made_own;
-              answers = ap (λ (as : Listed _). map plain_answer as.items) answers ∙ answers_are;
+              answers = ap (λ (rs : Listed _). map plain_answer rs.items) answers ∙ answers_are;
             }

@@ -96,10 +96,10 @@ module _ (work : Workload) (x : Rounds) (holds : IsOf work x) (c : Called) (s t 
     unfolding definitions closed_at
     breaks own broken found =
         let next : List ℤ = (call_outcome w c.call (folded x.base.items (deltas_in x.sites.items))).database in
-        let as = (closed_at own broken (brief_of x)).answers in
+        let answers : List Answer = (closed_at own broken (brief_of x)).answers in
         ap (closed_at own broken) brief_same
-        ∙ ap (λ n. record { brief = record { round = suc x.round; base = next; deltas = replicate n (zeros next) }; answers = as }) (sym long)
-        ∙ ap (λ ds. record { brief = record { round = suc x.round; base = next; deltas = ds }; answers = as }) (sym (map_const (deltas_in x.sites.items) (zeros next)))
+        ∙ ap (λ n. record { brief = record { round = suc x.round; base = next; deltas = replicate n (zeros next) }; answers = answers }) (sym long)
+        ∙ ap (λ ds. record { brief = record { round = suc x.round; base = next; deltas = ds }; answers = answers }) (sym (map_const (deltas_in x.sites.items) (zeros next)))
         ∙ ap (briefly_by w own (brief_of x) (plain_called c)) (sym (finding_is (Some broken) found))
 
   -- where it keeps it, its own site has gone on

@@ -2,6 +2,7 @@
 
 ghost use Rattle.std.specs.Prelude.{◌≡◌, ◌++◌, ◌≤◌, ◌<◌, ◌%◌, drop, length, map, IfOk, OnOk};
 ghost use Rattle.homeo_syntax.specs.SourceView.{plain_workload};
+ghost use Rattle.homeo_meaning.specs.Acceptance.{IsAccepted};
 ghost use Rattle.homeo_plan.specs.Planned.{sites_of};
 ghost use Rattle.homeo_nodes.specs.Nodes.{called, rest_of, calls_at, calls_from, carried};
 ghost use Rattle.homeo_carry.specs.CarryView.{plain_said};
@@ -28,7 +29,8 @@ pub(crate) fn carried_calls(
     u: Breach,
     states: &[Said],
 ) -> Result<Vec<Called>, Memory>
-    requires { length states.now ≡ sites_of (plain_workload w.now) }
+    requires accepted { IsAccepted (plain_workload w.now) }
+    requires states { length states.now ≡ sites_of (plain_workload w.now) }
     ensures { IfOk result (λ calls. map plain_called calls.items ≡ carried (plain_workload w.now) u (map plain_said states.now)) }
 {
     let mut calls = Vec::new(alloc);
