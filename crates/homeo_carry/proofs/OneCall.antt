@@ -1,8 +1,9 @@
 -- One call, at its site.
 use Rattle.homeo_site.specs.Key.{definitions as site_definitions}
 use Rattle.homeo_meaning.specs.Key.{definitions as meaning_definitions}
+use Rattle.homeo_core.specs.Key.{definitions as core_definitions}
 use Rattle.homeo_nodes.specs.Key.{definitions}
-use Rattle.std.proofs.Common.{inl, inr, ◌≡◌, ℕ, suc, ◌<◌, List, [], ◌∷◌, map, length, replicate, cond, eqb, ℤ, Option, Some, None, refl, sym, ap, subst, ◌∙◌, slice_index_or, slice_set}
+use Rattle.std.proofs.Common.{inl, inr, ◌≡◌, ℕ, suc, ◌<◌, List, [], ◌∷◌, map, length, replicate, cond, eqb, ℤ, Option, Some, None, refl, sym, ap, subst, ◌∙◌, arith, slice_index_or, slice_set}
 use Rattle.std.specs.Prelude.{slice_get, ◌⊎◌}
 use Rattle.std.proofs.lemmas.List.{length-map}
 use mathlib.Core.Logic.{⊎_elim}
@@ -26,16 +27,20 @@ use Rattle.homeo_site.specs.BareView.{BareValue, after_bare, after_ran, IsRan}
 use Rattle.homeo_site.specs.declared.bare.Ran.{Ran}
 use Rattle.homeo_site.specs.declared.bare.Ran.TheVariants.{Kept, Breaks}
 use Rattle.homeo_site.specs.SiteState.{SiteState, step_prints, step_deltas, step_finding}
+use Rattle.homeo_core.specs.Events.{closing_on}
+use Rattle.homeo_nodes.specs.declared.breach.Breach.{Breach}
 use Rattle.homeo_nodes.specs.Brief.{Brief, Answered, zeros, brief_at, site_at, briefly_by, briefly}
-use Rattle.homeo_nodes.specs.Nodes.{folded}
+use Rattle.homeo_nodes.specs.Making as n
+use Rattle.homeo_nodes.specs.Nodes.{folded, own_answer}
 use Rattle.homeo_nodes.proofs.Places.{set_itself, map_set}
 use Rattle.homeo_carry.specs.CarryView.{plain_bounds}
 use Rattle.homeo_carry.specs.declared.answers.Answers.{Answers}
 use Rattle.homeo_carry.specs.declared.bounds.Bounds.{Bounds}
 use Rattle.homeo_carry.specs.declared.calls.Called.{Called}
 use Rattle.homeo_carry.specs.declared.carrying.Rounds.{Rounds}
-use Rattle.homeo_carry.specs.inner.Answering.{AreMore}
-use Rattle.homeo_carry.specs.inner.Carrying.{plain_called, deltas_in, brief_of, breach_at, closed_by, IsOf, IsNext}
+use Rattle.homeo_carry.specs.inner.Answering.{AreMore, closing_by}
+use Rattle.homeo_carry.specs.inner.Carrying.{plain_called, deltas_in, brief_of, breach_at, closed_by, FoldsFit, IsOf, IsNext, CanMake}
+use Rattle.homeo_carry.proofs.SumLists.{sums_fit, whole_within}
 
 pub site_lt : (w : source.Workload) (site : ℕ) (call : CallId) → IsAccepted w → IsCallAt w site call → site < sites_of w
 site_lt w site call accepted at =
@@ -52,9 +57,43 @@ unfolding meaning_definitions
 within_there work bounds values items are is h =
     subst (λ bs. AreIn bs values) (sym are) (subst (IsWithin (schema_of (plain_workload work))) (sym is) h)
 
+-- ---- the next round
+closing_is : (w : source.Workload) (u : Breach) (whole prints : List ℤ) → prints ≡ (call_outcome w u.call whole).prints → closing_by u prints ≡ closing_on w whole u.site u.call u.broken
+unfolding core_definitions
+closing_is w u whole prints is =
+    ap (λ ps. record { site = u.site; entry = record { call = u.call; prints = ps }; broken = u.broken }) is
+
+pub next_is : (work v : Workload) (answers more : Answers) (u : Breach) (whole left prints : List ℤ) (round : ℕ) (next : Rounds) → v ≡ work → round ≡ suc u.round → left ≡ (call_outcome (plain_workload v) u.call whole).database → prints ≡ (call_outcome (plain_workload v) u.call whole).prints → AreMore answers more (own_answer answers.own u.round (Some (closing_by u prints))) → brief_of next ≡ brief_at (plain_workload work) round left → next.answers ≡ more → IsNext answers (closed_by (plain_workload work) answers.own u whole) next
+next_is work v answers more u whole left prints round next same numbered leaves printed given brief are =
+    let w : source.Workload = plain_workload work in
+    record {
+      brief = brief ∙ ap (λ r. brief_at w r left) numbered ∙ ap (brief_at w (suc u.round)) (leaves ∙ ap (λ (y : Workload). (call_outcome (plain_workload y) u.call whole).database) same);
+      answers = subst (λ a. AreMore answers a (closed_by w answers.own u whole).answers) (sym are) (subst (λ cl. AreMore answers more (own_answer answers.own u.round (Some cl))) (closing_is w u whole prints (printed ∙ ap (λ (y : Workload). (call_outcome (plain_workload y) u.call whole).prints) same)) given);
+    }
+
+-- ---- sums of rounds that can be so
+module _ (w : source.Workload) (x : Rounds) (c : n.Called) (accepted : IsAccepted w) (can : CanMake w (brief_of x) c) where
+  pub rounds_fit : (base : List ℤ) (sites : List BareValue) → base ≡ x.base.items → sites ≡ x.sites.items → FoldsFit base (deltas_in sites)
+  rounds_fit base sites is are =
+      subst (λ b. FoldsFit b (deltas_in sites)) (sym is) (subst (λ ss. FoldsFit x.base.items (deltas_in ss)) (sym are) (sums_fit w x.base.items (deltas_in x.sites.items) accepted can.sums))
+
+  pub rounds_within : (whole : List ℤ) → whole ≡ folded x.base.items (deltas_in x.sites.items) → IsWithin (schema_of w) whole
+  rounds_within whole is =
+      subst (IsWithin (schema_of w)) (sym is) (whole_within w x.base.items (deltas_in x.sites.items) can.sums)
+
 -- ---- the call
 abbrev delta_of : BareValue → List ℤ
 delta_of s = s.state.deltas
+
+pub site_there : (work v : Workload) (x : Rounds) (c : Called) → IsAccepted (plain_workload work) → IsOf work x → v ≡ work → IsCallAt (plain_workload v) c.site c.call → c.site < length x.sites.items
+site_there work v x c accepted holds same call =
+    let lt = site_lt (plain_workload work) c.site c.call accepted (subst (λ u. IsCallAt (plain_workload u) c.site c.call) same call) in
+    let count = holds.count in
+    omega (arith, lt, count)
+
+pub call_here : (work : Workload) (x : Rounds) → IsOf work x → (c : Called) (s : BareValue) → slice_get x.sites.items c.site ≡ Some s → (v : Workload) → v ≡ work → IsCallAt (plain_workload v) c.site c.call → IsCallAt (plain_workload s.work) s.state.number c.call
+call_here work x holds c s here v same call =
+    subst (λ (y : BareValue). IsCallAt (plain_workload y.work) y.state.number c.call) (sym (holds.sites c.site s here)) (subst (λ u. IsCallAt (plain_workload u) c.site c.call) same call)
 
 bare_same : (s z : BareValue) → s.work ≡ z.work → s.state ≡ z.state → s ≡ z
 bare_same s z work state = ap (λ (v : Workload). record { work = v; state = s.state }) work ∙ ap (λ x. record { work = z.work; state = x }) state
