@@ -1,21 +1,20 @@
 -- What holds of nodes and packets holds after a stop before which a node's callers withdraw what waits.
 use Rattle.homeo_nodes.specs.Key.{definitions}
-use Rattle.std.proofs.Common.{inl, inr, ◌≡◌, ℕ, zero, suc, ◌+◌, ◌-◌, ◌<◌, ◌≤◌, List, [], ◌∷◌, ◌++◌, length, take, drop, cond, Bool, true, false, Some, refl, sym, ap, subst, ◌∙◌, append_assoc, length-append, take-append-drop, arith, slice_set}
+use Rattle.std.proofs.Common.{inl, inr, ◌≡◌, ℕ, zero, suc, ◌+◌, ◌-◌, ◌<◌, List, [], ◌∷◌, ◌++◌, length, take, drop, cond, true, Some, refl, sym, ap, subst, ◌∙◌, append_assoc, length-append, take-append-drop, arith, slice_set}
 use Rattle.std.specs.Prelude.{slice_get, ◌==◌, ◌⊎◌}
-use Rattle.std.proofs.lemmas.List.{append-nil}
+use Rattle.std.proofs.lemmas.List.{append-nil, length-take, take_at}
 use mathlib.Core.Logic.{⊎_elim}
 use Rattle.homeo_syntax.specs.Source as s
 use Rattle.homeo_meaning.specs.declared.call.CallId.{CallId}
 use Rattle.homeo_meaning.specs.Acceptance.{IsAccepted}
 use Rattle.homeo_history.proofs.Lists.{get_same, get_set_same, set_cases, length_set}
 use Rattle.homeo_nodes.specs.declared.breach.Breach.{Breach}
-use Rattle.homeo_nodes.specs.declared.breach.Mode.TheVariants.{Running, Waiting, Stopped}
+use Rattle.homeo_nodes.specs.declared.breach.Mode.TheVariants.{Waiting, Stopped}
 use Rattle.homeo_nodes.specs.Laws.{calls_of}
-use Rattle.homeo_nodes.specs.Making.{Called}
-use Rattle.homeo_nodes.specs.Nodes.{Said, said_by, Packet, Want, Stop, State, round_of, Node, is_stopped, settled, stopped, withdrawing}
+use Rattle.homeo_nodes.specs.Nodes.{Said, said_by, Packet, Stop, State, Node, is_stopped, settled, stopped, withdrawing}
 use Rattle.homeo_nodes.proofs.Carrying.{AreAt}
 use Rattle.homeo_nodes.proofs.Courses.{IsThere, IsNear, course_quiet}
-use Rattle.homeo_nodes.proofs.Places.{same_or_not, test_true, cond_true, take_first}
+use Rattle.homeo_nodes.proofs.Places.{same_or_not, test_true, cond_true}
 use Rattle.homeo_nodes.proofs.Reacting.{one_state, quiet_settled}
 use Rattle.homeo_nodes.proofs.Sending.{Sent, sent_left, sent_right, sent_one}
 use Rattle.homeo_nodes.proofs.Settling.{Holds, behind_stopped}
@@ -28,25 +27,13 @@ at_take w i zero (c ∷ cs) a = tt
 at_take w i (suc n) [] a = tt
 at_take w i (suc n) (c ∷ cs) a = (a.0, at_take w i n cs a.1)
 
-few_take : {X : Type 0} (n : ℕ) (xs : List X) → length (take n xs) ≤ length xs
-few_take zero [] = omega arith
-few_take zero (x ∷ xs) = omega arith
-few_take (suc n) [] = omega arith
-few_take (suc n) (x ∷ xs) = let h = few_take n xs in omega (arith, h)
-
-both : {X : Type 0} (n : ℕ) (xs : List X) → take n xs ++ drop n xs ≡ xs
-both zero [] = refl
-both zero (x ∷ xs) = refl
-both (suc n) [] = refl
-both (suc n) (x ∷ xs) = ap (λ l. x ∷ l) (both n xs)
-
 -- a list that ends with the queue loses the same end
 less_asked : {X : Type 0} (xs queue all : List X) (n : ℕ) → xs ++ queue ≡ all → xs ++ take n queue ≡ take (length all - length (drop n queue)) all
 less_asked xs queue all n e =
     let split : all ≡ (xs ++ take n queue) ++ drop n queue =
-    sym e ∙ ap (λ q. xs ++ q) (sym (both n queue)) ∙ sym (append_assoc xs (take n queue) (drop n queue)) in
+    sym e ∙ ap (λ q. xs ++ q) (sym (take-append-drop n queue)) ∙ sym (append_assoc xs (take n queue) (drop n queue)) in
     let long : length all ≡ length (xs ++ take n queue) + length (drop n queue) = ap length split ∙ length-append (xs ++ take n queue) (drop n queue) in
-    sym (ap (take (length all - length (drop n queue))) split ∙ take_first (xs ++ take n queue) (drop n queue) (length all - length (drop n queue)) (omega (arith, long)))
+    sym (ap (take (length all - length (drop n queue))) split ∙ take_at (xs ++ take n queue) (drop n queue) (length all - length (drop n queue)) (omega (arith, long)))
 
 first_of : (queue rest : List CallId) (call : CallId) (kept : ℕ) → queue ≡ call ∷ rest → kept ≡ 1 → take kept queue ≡ call ∷ []
 first_of queue rest call kept e one = ap (λ k. take k queue) one ∙ ap (take 1) e
@@ -81,7 +68,7 @@ module _ (w : s.Workload) (ns : List Node) (ps : List Packet) (accepted : IsAcce
   carry : CanCarry w i n'.queue
   carry =
       let h = hears.queue.few in
-      let e = few_take kept n.queue in
+      let e = length-take kept n.queue in
       subst (CanCarry w i) (sym queue_is) (record { at_site = at_take w i kept n.queue hears.queue.at_site; few = omega (arith, h, e) })
 
   first_then : (a : Breach) → Wants w a n → ((rest : List CallId) × (n'.queue ≡ a.call ∷ rest)) ⊎ IsOverruled a n'
