@@ -1,6 +1,6 @@
 -- The end of a round.
 use Rattle.homeo_nodes.specs.Key.{definitions}
-use Rattle.std.proofs.Common.{◌≡◌, ℕ, zero, suc, ◌+◌, ◌<◌, ◌≤◌, ◌^◌, List, [], ◌∷◌, ◌++◌, map, length, take, drop, ℤ, Some, refl, sym, ap, subst, ◌∙◌, arith, slice_index_or}
+use Rattle.std.proofs.Common.{◌≡◌, ℕ, zero, suc, ◌+◌, ◌<◌, ◌^◌, List, [], ◌∷◌, ◌++◌, map, length, take, drop, ℤ, Some, sym, ap, subst, ◌∙◌, arith, slice_index_or}
 use Rattle.std.specs.Prelude.{slice_get}
 use Rattle.std.proofs.lemmas.List.{take-append-drop, length-map, length-take-le}
 use Rattle.homeo_syntax.specs.Listed.{Listed}
@@ -29,7 +29,7 @@ use Rattle.homeo_carry.specs.declared.answers.Answers.{Answers}
 use Rattle.homeo_carry.specs.declared.carrying.Rounds.{Rounds}
 use Rattle.homeo_carry.specs.declared.closing.Closed.{Closed}
 use Rattle.homeo_carry.specs.declared.said.Said.{Said}
-use Rattle.homeo_carry.specs.inner.Carrying.{brief_of, deltas_said, closed_by, FoldsFit, IsOf, IsNext, CanMake, CanMakeAll}
+use Rattle.homeo_carry.specs.inner.Carrying.{brief_of, deltas_said, closed_by, FoldsFit, IsOf, IsNext, CanMakeAll}
 use Rattle.homeo_carry.proofs.AllCalls.{round_after}
 use Rattle.homeo_carry.proofs.SumLists.{sums_fit, whole_within}
 

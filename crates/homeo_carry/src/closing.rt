@@ -79,7 +79,9 @@ fn outcome_of(x: Rounds) -> Closed
     ensures answers { result.answers ≡ x.answers.given }
 {
     let Rounds {
-        mut sites, answers, ..
+        mut sites,
+        answers,
+        ..
     } = x;
     Closed {
         site: sites.swap_remove(answers.own as usize),

@@ -2,7 +2,7 @@ use Rattle.std.proofs.Common.{map, ap, ◌∙◌, ◌++◌, drop}
 use Rattle.homeo_nodes.specs.Nodes.{called, calls_from}
 use Rattle.homeo_carry.specs.CarryView.{plain_said}
 use Rattle.homeo_carry.specs.inner.Carrying.{plain_called}
-use Rattle.homeo_carry.proofs.CarriedCalls.{site_next, sites_done}
+use Rattle.homeo_carry.proofs.CarriedCalls.{site_next}
 use Rattle.homeo_carry.proofs.calls.push_calls.Goals as goal
 
 pub loop-site-preserved : goal.loop-site-preserved

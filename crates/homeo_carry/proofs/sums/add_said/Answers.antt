@@ -1,6 +1,5 @@
 use Rattle.homeo_carry.specs.declared.said.Said.{Said}
 use Rattle.homeo_carry.proofs.SumLists.{fold_next, fits_next}
-use Rattle.std.proofs.Common.{◌∙◌, ap}
 use Rattle.homeo_carry.proofs.sums.add_said.Goals as goal
 
 pub loop-said-preserved : goal.loop-said-preserved
