@@ -1,8 +1,7 @@
 -- How a node in memory closes its round.
 use Rattle.homeo_nodes.specs.Key.{definitions as node_definitions}
-use Rattle.homeo_live.specs.Key.{definitions}
-use Rattle.std.proofs.Common.{◌≡◌, ℕ, ◌<◌, List, drop, replicate, [], ◌∷◌, map, length, Bool, true, false, Option, Some, None, refl, sym, ap, subst, ◌∙◌}
-use Rattle.std.specs.Prelude.{All, IfSome, is_some}
+use Rattle.std.proofs.Common.{◌≡◌, ℕ, ◌<◌, List, drop, replicate, [], map, length, false, Option, Some, None, refl, sym, ap, subst, ◌∙◌}
+use Rattle.std.specs.Prelude.{All, is_some}
 use Rattle.std.proofs.lemmas.List.{length-map}
 use Rattle.std.proofs.lemmas.List.Elements.{All-drop}
 use Rattle.homeo_syntax.specs.Source as s
@@ -22,7 +21,7 @@ use Rattle.homeo_nodes.specs.Nodes as n
 use Rattle.homeo_nodes.specs.Small.{Small, small, grown}
 use Rattle.homeo_nodes.proofs.Brief.{brief_is}
 use Rattle.homeo_nodes.proofs.Places.{length_replicate, all_there}
-use Rattle.homeo_carry.specs.CarryView.{plain_said, journal_of, without_segment, IsClosed}
+use Rattle.homeo_carry.specs.CarryView.{plain_said, journal_of, IsClosed}
 use Rattle.homeo_carry.specs.declared.bounds.Bounds.{Bounds}
 use Rattle.homeo_carry.specs.declared.closing.Closed.{Closed}
 use Rattle.homeo_carry.specs.declared.said.Said.{Said}
@@ -31,9 +30,6 @@ use Rattle.homeo_live.specs.declared.state.Past.{Past}
 use Rattle.homeo_live.specs.LiveView.{plain_step, plain_state, plain_past, LiveValue}
 use Rattle.homeo_live.specs.inner.Standing.{node_of, placed, IsLive, CanSettle}
 use Rattle.homeo_live.proofs.LiveViews.{value_in}
-
-pub if_some : {X : Type 0} (P : X → Type 0) (o : Option X) (x : X) → IfSome o P → o ≡ Some x → P x
-if_some P o x h e = subst (λ p. IfSome p P) e h
 
 -- ---- what is settled
 module _ (w : s.Workload) (y : Small) (mode : Mode) (states : List (Option n.Said)) where

@@ -1,6 +1,5 @@
 -- What a node in memory does with packets.
 use Rattle.homeo_nodes.specs.Key.{definitions as node_definitions}
-use Rattle.homeo_live.specs.Key.{definitions}
 use Rattle.std.proofs.Common.{◌≡◌, ℕ, ◌<◌, List, [], ◌∷◌, ◌++◌, map, Bool, true, false, cond, Option, Some, None, Result, Ok, Err, refl, sym, ap, subst, ◌∙◌, slice_set}
 use Rattle.std.specs.Prelude.{IfOk, IfSome, is_some, not, ◌&&◌, ◌==◌, ◌%◌}
 use Rattle.std.proofs.lemmas.List.{append-nil, map-append}
@@ -23,7 +22,7 @@ use Rattle.homeo_live.specs.declared.packet.Packet.{Packet}
 use Rattle.homeo_live.specs.declared.packet.Step.{Step}
 use Rattle.homeo_live.specs.declared.state.Past.{Past}
 use Rattle.homeo_live.specs.LiveView.{plain_packet, plain_step, LiveValue, IsReaction}
-use Rattle.homeo_live.specs.inner.Standing.{node_of, placed, CanSettle}
+use Rattle.homeo_live.specs.inner.Standing.{placed, CanSettle}
 use Rattle.homeo_live.proofs.LiveViews.{value_in, idle_is}
 
 -- ---- a Want
@@ -98,10 +97,6 @@ pub free_mode : (m : Mode) → ((b : Breach) → m ≡ Stopped b → ⊥) → n.
 free_mode Running other = refl
 free_mode (Waiting b) other = refl
 free_mode (Stopped b) other = absurd (other b refl)
-
-pub some_more : {X : Type 0} {P Q : X → Type 0} (o : Option X) → ((x : X) → P x → Q x) → IfSome o P → IfSome o Q
-some_more None f h = tt
-some_more (Some x) f h = f x h
 
 some_both : {X : Type 0} {P Q R : X → Type 0} (o : Option X) → ((x : X) → P x → Q x → R x) → IfSome o P → IfSome o Q → IfSome o R
 some_both None f h g = tt

@@ -1,11 +1,10 @@
 -- What a node in memory stands for, and what it does with calls.
 use Rattle.homeo_site.specs.Key.{definitions as site_definitions}
 use Rattle.homeo_nodes.specs.Key.{definitions as node_definitions}
-use Rattle.homeo_live.specs.Key.{definitions}
-use Rattle.std.proofs.Common.{◌≡◌, ℕ, ◌<◌, ◌≤◌, List, drop, [], ◌∷◌, ◌++◌, map, length, get_or, Bool, true, false, cond, ℤ, Option, Some, None, refl, sym, ap, subst, ◌∙◌, arith}
+use Rattle.std.proofs.Common.{◌≡◌, ◌<◌, ◌≤◌, List, drop, [], ◌∷◌, ◌++◌, map, length, get_or, Bool, true, false, cond, ℤ, Option, Some, None, refl, sym, ap, subst, ◌∙◌, arith}
 use Rattle.std.specs.Prelude.{All, nat_lt}
 use Rattle.std.proofs.lemmas.Bool.Decides.{nat_tests}
-use Rattle.std.proofs.lemmas.List.{append-nil, map-append}
+use Rattle.std.proofs.lemmas.List.{append-nil, drop_more, map-append}
 use Rattle.std.proofs.lemmas.List.Elements.{All-head}
 use Rattle.homeo_syntax.specs.Source as s
 use Rattle.homeo_syntax.specs.SourceView.{plain_workload}
@@ -54,8 +53,7 @@ after_number w x y call e = ap (λ (z : SiteState). z.number) e
 
 -- ---- the queue
 pub first_of : {X : Type 0} (xs : List X) (x : X) → 0 < length xs → x ≡ get_or xs 0 x → xs ≡ x ∷ drop 1 xs
-first_of [] x lt e = absurd (omega (arith, lt))
-first_of (y ∷ xs) x lt e = ap (λ z. z ∷ xs) (sym e)
+first_of xs x lt e = drop_more xs 0 x lt ∙ ap (λ z. z ∷ drop 1 xs) (sym e)
 
 pub first_at : {X : Type 0} (P : X → Type 0) (x : X) (xs ys : List X) → ys ≡ x ∷ xs → All P ys → P x
 first_at P x xs ys e h = All-head P x xs (subst (All P) e h)

@@ -1,7 +1,7 @@
 use Rattle.homeo_live.specs.Key.{definitions}
-use Rattle.std.proofs.Common.{◌≡◌, ◌<◌, ◌≤◌, ◌∷◌, ◌++◌, [], length, refl, sym, ap, subst, ◌∙◌}
+use Rattle.std.proofs.Common.{◌<◌, ◌≤◌, length, subst, ◌∙◌}
 use Rattle.homeo_live.specs.LiveView.{LiveValue}
-use Rattle.homeo_live.proofs.LiveViews.{value_in, held_node, held_step, queued_node, queued_step}
+use Rattle.homeo_live.proofs.LiveViews.{held_node, held_step, queued_node, queued_step}
 use Rattle.homeo_live.proofs.live.LiveNode.ask.Goals as goal
 
 pub returns-then-len-ge-MOST_WAITING-clause-node : goal.returns-then-len-ge-MOST_WAITING-clause-node

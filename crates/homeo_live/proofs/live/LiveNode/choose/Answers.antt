@@ -1,5 +1,5 @@
 use Rattle.homeo_live.specs.Key.{definitions}
-use Rattle.std.proofs.Common.{◌≡◌, ◌<◌, Some, refl, sym, ap, subst, ◌∙◌}
+use Rattle.std.proofs.Common.{◌<◌, Some, refl, sym, ap, subst, ◌∙◌}
 use Rattle.homeo_syntax.specs.SourceView.{plain_workload}
 use Rattle.homeo_syntax.specs.declared.workload.Workload.{Workload}
 use Rattle.homeo_plan.specs.Planned.{sites_of}

@@ -1,6 +1,7 @@
 use Rattle.homeo_live.specs.Key.{definitions}
-use Rattle.std.proofs.Common.{◌≡◌, ◌<◌, ◌^◌, length, map, drop, refl, sym, ap, subst, ◌∙◌}
+use Rattle.std.proofs.Common.{◌<◌, ◌^◌, length, map, drop, refl, sym, ap, subst, ◌∙◌}
 use Rattle.std.specs.Prelude.{is_some}
+use Rattle.std.proofs.lemmas.Option.{MatchOption-at_some}
 use Rattle.homeo_syntax.specs.SourceView.{plain_workload}
 use Rattle.homeo_syntax.specs.declared.workload.Workload.{Workload}
 use Rattle.homeo_plan.specs.Planned.{sites_of}
@@ -9,7 +10,7 @@ use Rattle.homeo_nodes.specs.Nodes.{own_calls}
 use Rattle.homeo_carry.specs.CarryView.{plain_said, journal_of, IsClosed}
 use Rattle.homeo_live.specs.LiveView.{LiveValue}
 use Rattle.homeo_live.specs.declared.packet.Step.TheVariants as step
-use Rattle.homeo_live.proofs.LiveClosings.{if_some, count_all, can_close, gone_view, gone_told, gone_live}
+use Rattle.homeo_live.proofs.LiveClosings.{count_all, can_close, gone_view, gone_told, gone_live}
 use Rattle.homeo_live.proofs.live.LiveNode.go_on.Goals as goal
 
 pub count_made-made-requires : goal.count_made-made-requires
@@ -27,7 +28,7 @@ pub invariant_of-self-in-Some : goal.invariant_of-self-in-Some
 invariant_of-self-in-Some c =
     let i = c.self.inside in
     let all = c.in_ok-all.all.items in
-    let closed = subst (λ l. IsClosed i.planner c.args.u (map plain_said l) i.site.state c.in-Some.closed) c.as_slice-4.ensures.value (if_some _ c.in_ok-closed.field-0 c.in-Some.closed c.in_ok-closed.ensures.closed c.in-Some.is) in
+    let closed = subst (λ l. IsClosed i.planner c.args.u (map plain_said l) i.site.state c.in-Some.closed) c.as_slice-4.ensures.value (MatchOption-at_some _ _ c.in-Some.closed c.in-Some.is c.in_ok-closed.ensures.closed) in
     let sites = c.site_count.ensures.count ∙ ap (λ (v : Workload). sites_of (plain_workload v)) (c.workload.ensures ∙ c.compiled.ensures) in
     let long = c.requires.count ∙ ap (λ (v : LiveValue). sites_of (plain_workload v.work)) (sym c.self.view_is) in
     let below = subst (λ k. k < sites_of (plain_workload i.planner)) c.number.ensures.number (subst (λ (v : Workload). c.number.result < sites_of (plain_workload v)) c.self.invariant.work_is c.number.ensures.below) in
@@ -39,7 +40,7 @@ unfolding definitions
 returns-in-Some-clause-node c =
     let i = c.self.inside in
     let all = c.in_ok-all.all.items in
-    let closed = subst (λ l. IsClosed i.planner c.args.u (map plain_said l) i.site.state c.in-Some.closed) c.as_slice-4.ensures.value (if_some _ c.in_ok-closed.field-0 c.in-Some.closed c.in_ok-closed.ensures.closed c.in-Some.is) in
+    let closed = subst (λ l. IsClosed i.planner c.args.u (map plain_said l) i.site.state c.in-Some.closed) c.as_slice-4.ensures.value (MatchOption-at_some _ _ c.in-Some.closed c.in-Some.is c.in_ok-closed.ensures.closed) in
     let sites = c.site_count.ensures.count ∙ ap (λ (v : Workload). sites_of (plain_workload v)) (c.workload.ensures ∙ c.compiled.ensures) in
     let makes =
     c.count_made-made.ensures
@@ -53,7 +54,7 @@ unfolding definitions
 returns-in-Some-clause-came_to c =
     let i = c.self.inside in
     let all = c.in_ok-all.all.items in
-    let closed = subst (λ l. IsClosed i.planner c.args.u (map plain_said l) i.site.state c.in-Some.closed) c.as_slice-4.ensures.value (if_some _ c.in_ok-closed.field-0 c.in-Some.closed c.in_ok-closed.ensures.closed c.in-Some.is) in
+    let closed = subst (λ l. IsClosed i.planner c.args.u (map plain_said l) i.site.state c.in-Some.closed) c.as_slice-4.ensures.value (MatchOption-at_some _ _ c.in-Some.closed c.in-Some.is c.in_ok-closed.ensures.closed) in
     gone_told i.planner i.site.state c.self.invariant.empty i.mode i.decided i.states.items i.past i.queue.items c.args.u c.args.states.now all c.in_ok-all.ensures c.in-Some.closed closed c.args.self.now (step.Closed c.in-Some.closed.answers) c.self.view_is refl
 
 pub returns-in-None-clause-closes : goal.returns-in-None-clause-closes

@@ -1,12 +1,13 @@
 use Rattle.homeo_live.specs.Key.{definitions}
-use Rattle.std.proofs.Common.{◌≡◌, ◌<◌, length, map, Some, refl, sym, ap, subst, ◌∙◌, slice_set}
+use Rattle.std.proofs.Common.{◌<◌, length, map, Some, sym, ap, subst, ◌∙◌, slice_set}
+use Rattle.std.proofs.lemmas.Option.{IfSome_then}
 use Rattle.std.proofs.lemmas.Result.{IfOk-weaker}
 use Rattle.homeo_syntax.specs.SourceView.{plain_workload}
 use Rattle.homeo_plan.specs.Planned.{sites_of}
 use Rattle.homeo_nodes.specs.Nodes as n
 use Rattle.homeo_carry.specs.CarryView.{plain_said}
 use Rattle.homeo_live.specs.LiveView.{plain_state, LiveValue}
-use Rattle.homeo_live.proofs.LivePackets.{left_state, left_node, keep_node, keep_step, some_more, come_state, settle_state}
+use Rattle.homeo_live.proofs.LivePackets.{left_state, left_node, keep_node, keep_step, come_state, settle_state}
 use Rattle.homeo_live.proofs.live.LiveNode.keep.Goals as goal
 
 pub returns-then-has_state-clause-node : goal.returns-then-has_state-clause-node
@@ -30,14 +31,14 @@ returns-clause-node c =
     let said = plain_said c.args.said.now in
     let free = ap (λ (v : LiveValue). n.has_state v.node.states c.args.site) (sym c.self.view_is) ∙ ap (λ xs. n.has_state (map plain_state xs) c.args.site) (sym c.as_slice-2.ensures.value) ∙ sym c.has_state.ensures ∙ c.if-has_state.false in
     let put = c.in_ok-states.ensures ∙ ap (λ xs. slice_set (map plain_state xs) c.args.site (Some said)) c.as_slice-3.ensures.value ∙ ap (λ (v : LiveValue). slice_set v.node.states c.args.site (Some said)) c.self.view_is in
-    IfOk-weaker c.settle-2.result _ _ (λ o. some_more o (λ s. keep_node c.args.self.now c.settle.inside.mode (map plain_state c.in_ok-states.states.items) c.args.self.now.node.round c.args.site said _ (ap (λ (v : LiveValue). v.node.mode) c.settle.view_is) put free)) c.settle-2.ensures.node
+    IfOk-weaker c.settle-2.result _ _ (λ o h. IfSome_then o h (λ s. keep_node c.args.self.now c.settle.inside.mode (map plain_state c.in_ok-states.states.items) c.args.self.now.node.round c.args.site said _ (ap (λ (v : LiveValue). v.node.mode) c.settle.view_is) put free)) c.settle-2.ensures.node
 
 pub returns-clause-came_to : goal.returns-clause-came_to
 returns-clause-came_to c =
     let said = plain_said c.args.said.now in
     let free = ap (λ (v : LiveValue). n.has_state v.node.states c.args.site) (sym c.self.view_is) ∙ ap (λ xs. n.has_state (map plain_state xs) c.args.site) (sym c.as_slice-2.ensures.value) ∙ sym c.has_state.ensures ∙ c.if-has_state.false in
     let put = c.in_ok-states.ensures ∙ ap (λ xs. slice_set (map plain_state xs) c.args.site (Some said)) c.as_slice-3.ensures.value ∙ ap (λ (v : LiveValue). slice_set v.node.states c.args.site (Some said)) c.self.view_is in
-    IfOk-weaker c.settle-2.result _ _ (λ o. some_more o (λ s. keep_step c.args.self.now c.settle.inside.mode (map plain_state c.in_ok-states.states.items) c.args.self.now.node.round c.args.site said s (ap (λ (v : LiveValue). v.node.mode) c.settle.view_is) put free)) c.settle-2.ensures.came_to
+    IfOk-weaker c.settle-2.result _ _ (λ o h. IfSome_then o h (λ s. keep_step c.args.self.now c.settle.inside.mode (map plain_state c.in_ok-states.states.items) c.args.self.now.node.round c.args.site said s (ap (λ (v : LiveValue). v.node.mode) c.settle.view_is) put free)) c.settle-2.ensures.came_to
 
 pub returns-then-not-has_place-clause-comes : goal.returns-then-not-has_place-clause-comes
 returns-then-not-has_place-clause-comes c h lt =

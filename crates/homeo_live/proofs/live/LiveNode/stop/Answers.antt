@@ -1,6 +1,7 @@
 use Rattle.homeo_live.specs.Key.{definitions}
 use Rattle.std.proofs.Common.{◌≡◌, [], ◌∷◌, ◌++◌, map, Some, refl, sym, ap, subst, ◌∙◌, slice_set}
 use Rattle.std.specs.Prelude.{is_some}
+use Rattle.std.proofs.lemmas.Option.{MatchOption-at_some}
 use Rattle.homeo_syntax.specs.SourceView.{plain_workload}
 use Rattle.homeo_syntax.specs.declared.workload.Workload.{Workload}
 use Rattle.homeo_history.specs.Legal.{IsCallAt}
@@ -11,7 +12,6 @@ use Rattle.homeo_live.specs.declared.packet.Packet.TheVariants as packet
 use Rattle.homeo_live.specs.declared.packet.Step.TheVariants as step
 use Rattle.homeo_live.proofs.LiveViews.{idle_is}
 use Rattle.homeo_live.proofs.LivePackets.{left_stop, stop_reaction, come_stop, settle_stop, said_is, own_said}
-use Rattle.homeo_live.proofs.LiveClosings.{if_some}
 use Rattle.homeo_live.proofs.live.LiveNode.stop.Goals as goal
 
 pub returns-in-Stopped-clause-reaction : goal.returns-in-Stopped-clause-reaction
@@ -41,7 +41,7 @@ returns-in-Some c =
     let state = packet.State c.round-round.result c.number-site.result c.in_ok-said-in_default.said in
     let sent : plain_packet state ≡ n.State y.round y.number (own_said w y) = ap (λ r. n.State r c.number-site.result said) round ∙ ap (λ k. n.State y.round k said) number ∙ ap (n.State y.round y.number) own in
     record {
-      reaction = stop_reaction w y c.args.b sts c.settle.new.self.node c.args.packets.now.items c.push_packet.new.packets.items state c.in-Some.step (λ b e. c.in_default.not-Stopped b (ap (λ (v : LiveValue). v.node.mode) view ∙ e)) put sent (c.push_packet.ensures ∙ ap (λ l. l.items ++ state ∷ []) c.in_ok-reserve-in_default.ensures.ok) (if_some _ c.in_ok-step-in_default.field-0 c.in-Some.step c.in_ok-step-in_default.ensures.node c.in-Some.is) (if_some _ c.in_ok-step-in_default.field-0 c.in-Some.step c.in_ok-step-in_default.ensures.came_to c.in-Some.is);
+      reaction = stop_reaction w y c.args.b sts c.settle.new.self.node c.args.packets.now.items c.push_packet.new.packets.items state c.in-Some.step (λ b e. c.in_default.not-Stopped b (ap (λ (v : LiveValue). v.node.mode) view ∙ e)) put sent (c.push_packet.ensures ∙ ap (λ l. l.items ++ state ∷ []) c.in_ok-reserve-in_default.ensures.ok) (MatchOption-at_some _ _ c.in-Some.step c.in-Some.is c.in_ok-step-in_default.ensures.node) (MatchOption-at_some _ _ c.in-Some.step c.in-Some.is c.in_ok-step-in_default.ensures.came_to);
       comes = λ h lt. refl;
       left = λ e. absurd (cc);
       unchanged = tt;
