@@ -1,0 +1,3 @@
+pub mod LiveClosings
+pub mod LivePackets
+pub mod LiveViews
