@@ -1,0 +1,5 @@
+pub mod Begun
+pub mod Fitting
+pub mod LiveLists
+pub mod Resending
+pub mod StateLists
