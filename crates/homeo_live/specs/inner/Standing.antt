@@ -14,8 +14,9 @@ use Rattle.homeo_site.specs.BareView.{BareValue}
 use Rattle.homeo_site.specs.SiteState.{SiteState}
 use Rattle.homeo_nodes.specs.declared.breach.Breach.{Breach}
 use Rattle.homeo_nodes.specs.declared.breach.Mode.{Mode}
-use Rattle.homeo_nodes.specs.declared.breach.Mode.TheVariants.{Running, Waiting, Stopped}
+use Rattle.homeo_nodes.specs.declared.breach.Mode.TheVariants.{Stopped}
 use Rattle.homeo_nodes.specs.Coming.{CanClose}
+pub use Rattle.homeo_nodes.specs.Holding.{IsModeOf}
 use Rattle.homeo_nodes.specs.Nodes as n
 use Rattle.homeo_nodes.specs.Nodes.{Node, all_of, most_waiting}
 use Rattle.homeo_nodes.specs.Small.{Small, grown}
@@ -39,12 +40,6 @@ node_of x mode decided states past queue = record {
   past = option_map plain_past past;
   queue = queue;
 }
-
--- the call by which a node doesn't run is one of a client of its site
-abbrev pub IsModeOf : s.Workload → Mode → Type 0
-IsModeOf w Running = Unit {0}
-IsModeOf w (Waiting b) = IsCallAt w b.site b.call
-IsModeOf w (Stopped b) = IsCallAt w b.site b.call
 
 -- each call is one of a client of the site
 abbrev pub AreCallsOf : s.Workload → ℕ → List CallId → Type 0

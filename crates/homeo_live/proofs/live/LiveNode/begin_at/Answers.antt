@@ -1,5 +1,6 @@
 use Rattle.homeo_live.specs.Key.{definitions}
-use Rattle.std.proofs.Common.{◌≡◌, ◌<◌, ◌+ℤ◌, length, refl, sym, ap, subst, ◌∙◌}
+use Rattle.std.proofs.Common.{◌≡◌, true, ◌<◌, ◌+ℤ◌, length, refl, sym, ap, subst, ◌∙◌}
+use Rattle.std.specs.Prelude.{is_some}
 use Rattle.homeo_syntax.specs.SourceView.{plain_workload}
 use Rattle.homeo_syntax.specs.declared.workload.Workload.{Workload}
 use Rattle.homeo_meaning.specs.Acceptance.{IsAccepted}
@@ -7,9 +8,10 @@ use Rattle.homeo_meaning.specs.Bounds.{IsWithin, AllWithin, all_bounds}
 use Rattle.homeo_meaning.specs.Schema.{schema_of}
 use Rattle.homeo_meaning.specs.Serial.{values_of}
 use Rattle.homeo_plan.specs.Planned.{sites_of}
+use Rattle.homeo_history.specs.Replayed.{MeetsTreaty}
 use Rattle.homeo_site.specs.SiteView.{StartValue}
 use Rattle.homeo_live.specs.inner.Standing.{IsFit}
-use Rattle.homeo_live.proofs.Begun.{if_some, fit_live, fit_view}
+use Rattle.homeo_live.proofs.Begun.{if_some, fit_live, fit_view, reached_fits, reached_meets}
 use Rattle.homeo_live.proofs.live.LiveNode.begin_at.Goals as goal
 
 pub start-requires-clause-within : goal.start-requires-clause-within
@@ -37,3 +39,14 @@ pub returns-in-Some-clause-state : goal.returns-in-Some-clause-state
 unfolding definitions
 returns-in-Some-clause-state c =
     fit_view c.args.c.value c.start.new.self c.args.state c.in_ok-start.start c.in-Some.site (c.in_ok-start.ensures.planner ∙ c.new-planner.ensures) (c.in_ok-start.ensures.start ∙ ap (λ (v : Workload). record { work = v; number = c.args.state.site; round = c.args.state.round; base = c.args.state.base.items }) c.new-planner.ensures) (if_some _ c.in_ok-site.field-0 c.in-Some.site c.in_ok-site.ensures.at c.in-Some.is)
+
+pub returns-then-not-branch-clause-reached : goal.returns-then-not-branch-clause-reached
+returns-then-not-branch-clause-reached c led =
+    let fit = reached_fits (plain_workload c.args.c.value) c.args.state (subst (λ (v : Workload). IsAccepted (plain_workload v)) (c.workload.ensures ∙ c.deref.ensures) c.client_count-clients.ensures.accepted) led in
+    sym c.if-not-branch.true ∙ c.in_ok-is_fit.ensures.no (subst (λ (v : Workload). IsFit (plain_workload v) c.args.state) (sym (c.workload-3.ensures ∙ c.deref-3.ensures)) fit)
+
+pub returns-in-None-clause-reached : goal.returns-in-None-clause-reached
+returns-in-None-clause-reached c led =
+    let meets = reached_meets (plain_workload c.args.c.value) c.args.state (subst (λ (v : Workload). IsAccepted (plain_workload v)) (c.workload.ensures ∙ c.deref.ensures) c.client_count-clients.ensures.accepted) led in
+    let start = c.in_ok-start.ensures.start ∙ ap (λ (v : Workload). record { work = v; number = c.args.state.site; round = c.args.state.round; base = c.args.state.base.items }) c.new-planner.ensures in
+    subst (λ o. is_some o ≡ true) c.in-None.is (c.in_ok-site.ensures.meets (subst (λ (v : StartValue). MeetsTreaty (plain_workload v.work) v.base v.number (values_of c.args.state.deltas.items)) (sym start) meets))
