@@ -4,6 +4,7 @@ use Rattle.homeo_core.specs.Key.{definitions as core_definitions}
 use Rattle.homeo_nodes.specs.Key.{definitions}
 use Rattle.std.proofs.Common.{inl, inr, ◌≡◌, ℕ, zero, suc, ◌<◌, List, [], ◌∷◌, ◌++◌, map, length, take, ℤ, Some, refl, sym, ap, subst, ◌∙◌, arith, slice_index_or}
 use Rattle.std.specs.Prelude.{slice_get, All, Contains}
+use Rattle.std.proofs.lemmas.List.{take_at, take-append-le}
 use Rattle.std.proofs.lemmas.List.Elements.{All-push}
 use mathlib.Core.Logic.{⊎_elim}
 use Rattle.homeo_syntax.specs.Source as s
@@ -20,7 +21,7 @@ use Rattle.homeo_core.specs.Joined.{BookState, AreJoined, segments_of, open_roun
 use Rattle.homeo_core.specs.Joined as core
 use Rattle.homeo_core.proofs.OpenRound as open_round_facts
 use Rattle.homeo_nodes.specs.declared.breach.Breach.{Breach}
-use Rattle.homeo_nodes.specs.Laws.{journals, IsOf, IsAnswered, IsOnce, IsStory, IsOneRound, OneRound, OneStory, OneEachRound, SentBefore, FewCarried}
+use Rattle.homeo_nodes.specs.Laws.{journals, HasRun, IsAnswered, IsOnce, IsStory, IsOneRound, OneRound, OneStory, OneEachRound, SentBefore, FewCarried}
 use Rattle.homeo_nodes.specs.Making.{Joint, first_joint}
 use Rattle.homeo_nodes.specs.Nodes.{Said, Packet, Stop, State, Left, left_of, Journal, Node, newest, closed, own_calls, goes_on, World, Event, resent, at_start, reached}
 use Rattle.homeo_nodes.proofs.Courses.{IsUp, IsNear}
@@ -67,13 +68,6 @@ module _ (w : s.Workload) (start : List ℤ) (b : BookState) (sites : List SiteS
   }
 
 -- ---- lists
-take_first : {X : Type 0} (xs ys : List X) (n : ℕ) → n ≡ length xs → take n (xs ++ ys) ≡ xs
-take_first [] [] zero e = refl
-take_first [] (y ∷ ys) zero e = refl
-take_first [] ys (suc n) e = absurd (omega (arith, e))
-take_first (x ∷ xs) ys zero e = absurd (omega (arith, e))
-take_first (x ∷ xs) ys (suc n) e = ap (λ l. x ∷ l) (take_first xs ys n (omega (arith, e)))
-
 -- what stands before an item of a mapped list is mapped from what stands before it there
 record Found {X Y : Type 0} (f : X → Y) (before : List Y) (y : Y) (xs : List X) : Type 0 where
   pub item : X
@@ -90,20 +84,15 @@ found f (z ∷ before) y after (x ∷ xs) e =
     let same : z ≡ f x = cc in
     record { item = rest.item; here = rest.here; is = rest.is; first = ap (λ v. v ∷ before) same ∙ ap (λ l. f x ∷ l) rest.first }
 
-take_left : {X : Type 0} (xs ys : List X) (n : ℕ) → n < length xs → take n (xs ++ ys) ≡ take n xs
-take_left [] ys n lt = absurd (omega (arith, lt))
-take_left (x ∷ xs) ys zero lt = refl
-take_left (x ∷ xs) ys (suc n) lt = ap (λ l. x ∷ l) (take_left xs ys n (omega (arith, lt)))
-
 -- ---- each node
 module _ (w : s.Workload) (x : Joint) (joined : AreJoined w (initial w) x.book x.sites) where
   abbrev rounds : List Round
   rounds = rounds_of x.book x.sites
 
-  up_is : (i : ℕ) (j : Journal) → IsUp x i j → IsOf rounds i j
+  up_is : (i : ℕ) (j : Journal) → IsUp x i j → HasRun rounds i j
   unfolding core_definitions history_definitions
   up_is i j up = record {
-    left = up.left ∙ ap (map (left_of i)) (sym (take_first x.book.closed (open_round x.book.base x.sites ∷ []) j.site.round up.round));
+    left = up.left ∙ ap (map (left_of i)) (sym (take_at x.book.closed (open_round x.book.base x.sites ∷ []) j.site.round (sym up.round)));
     round = open_round x.book.base x.sites;
     here = subst (λ n. slice_get rounds n ≡ Some (open_round x.book.base x.sites)) (sym up.round) (get_end x.book.closed (open_round x.book.base x.sites));
     base = (joined.round.each i j.site up.site).base;
@@ -120,10 +109,10 @@ module _ (w : s.Workload) (x : Joint) (joined : AreJoined w (initial w) x.book x
     base_there q e =
         ap (λ (l : Left). l.base) placed.is ∙ ap (λ (r : Round). r.base) (get_same x.book.closed j.site.round placed.item q (subst (λ n. slice_get x.book.closed n ≡ Some placed.item) long placed.here) e)
 
-    behind_is : IsOf rounds i j
+    behind_is : HasRun rounds i j
     unfolding definitions core_definitions
     behind_is = record {
-      left = placed.first ∙ ap (λ n. map (left_of i) (take n x.book.closed)) long ∙ ap (map (left_of i)) (sym (take_left x.book.closed (open_round x.book.base x.sites ∷ []) j.site.round before));
+      left = placed.first ∙ ap (λ n. map (left_of i) (take n x.book.closed)) long ∙ ap (map (left_of i)) (sym (take-append-le j.site.round x.book.closed (open_round x.book.base x.sites ∷ []) (omega (arith, before))));
       round = placed.item;
       here = get_left x.book.closed (open_round x.book.base x.sites ∷ []) j.site.round placed.item (subst (λ n. slice_get x.book.closed n ≡ Some placed.item) long placed.here);
       base = ap (λ (l : Left). l.base) placed.is;
@@ -139,7 +128,7 @@ module _ (w : s.Workload) (x : World) (accepted : IsAccepted w) (h : IsHeld w x)
   unfolding definitions
   node_of i j e = get_map_back (λ (n : Node). n.journal) x.nodes i j e
 
-  is_of : (i : ℕ) (n : Node) → IsNear w x.packets y h.turn h.calls i n → IsOf (rounds_of y.book y.sites) i n.journal
+  is_of : (i : ℕ) (n : Node) → IsNear w x.packets y h.turn h.calls i n → HasRun (rounds_of y.book y.sites) i n.journal
   is_of i n near =
       ⊎_elim (λ a. up_is w y h.course.joined i n.journal a.up) (λ b. behind_is w y h.course.joined h.turn.breach h.turn.states i n.journal b.long b.before b.then) near
 
@@ -151,8 +140,8 @@ module _ (w : s.Workload) (x : World) (accepted : IsAccepted w) (h : IsHeld w x)
   is_once i n here near =
       ⊎_elim (λ a. record { waits = n.queue; once = a.once; made = []; queue = refl; running = λ r. refl }) (λ b. record { waits = b.waits; once = b.once; made = own_calls h.turn.breach h.turn.states i; queue = b.queue; running = λ r. absurd (running_not_stopped n.mode r (behind_stopped w x.nodes x.packets y h.turn h.calls i n h.talk here b)) }) near
 
-  base_is : (i : ℕ) (j : Journal) → slice_get (journals x) i ≡ Some j → IsOf (rounds_of y.book y.sites) i j
-  base_is i j e = let n = node_of i j e in subst (IsOf (rounds_of y.book y.sites) i) n.1.1 (is_of i n.0 (h.course.near i n.0 n.1.0))
+  base_is : (i : ℕ) (j : Journal) → slice_get (journals x) i ≡ Some j → HasRun (rounds_of y.book y.sites) i j
+  base_is i j e = let n = node_of i j e in subst (HasRun (rounds_of y.book y.sites) i) n.1.1 (is_of i n.0 (h.course.near i n.0 n.1.0))
 
   pub first_joined : JointHolds w (initial w) (first_joint w)
   first_joined = joint_joined w accepted
@@ -162,7 +151,7 @@ module _ (w : s.Workload) (x : World) (accepted : IsAccepted w) (h : IsHeld w x)
   story = record {
     at_sites = h.course.at_sites;
     journals_are = λ i j e. let n = node_of i j e in
-        subst (λ (z : Joint). IsOf (rounds_of z.book z.sites) i j) (sym h.course.ran) (subst (IsOf (rounds_of y.book y.sites) i) n.1.1 (is_of i n.0 (h.course.near i n.0 n.1.0)));
+        subst (λ (z : Joint). HasRun (rounds_of z.book z.sites) i j) (sym h.course.ran) (subst (HasRun (rounds_of y.book y.sites) i) n.1.1 (is_of i n.0 (h.course.near i n.0 n.1.0)));
     sites = λ i j e up. let n = node_of i j e in
         subst (λ (z : Joint). slice_get z.sites i ≡ Some j.site) (sym h.course.ran) (subst (λ (l : Journal). slice_get y.sites i ≡ Some l.site) n.1.1 (site_there i n.0 (h.course.near i n.0 n.1.0) (ap (λ (l : Journal). l.site.round) n.1.1 ∙ up ∙ ap (λ (z : Joint). length z.book.closed) h.course.ran)));
     answered = λ i j e. subst (λ (z : Joint). IsAnswered (rounds_of z.book z.sites) i j) (sym h.course.ran) (answered (rounds_of y.book y.sites) i j (base_is i j e));
@@ -176,10 +165,10 @@ module _ (w : s.Workload) (x : World) (accepted : IsAccepted w) (h : IsHeld w x)
   maps_same f g i same (q ∷ qs) = let here = same q in let rest = maps_same f g i same qs in cc
 
   module _ (i k : ℕ) (j l : Journal) (e : slice_get (journals x) i ≡ Some j) (f : slice_get (journals x) k ≡ Some l) (same : j.site.round ≡ l.site.round) where
-    a : IsOf (rounds_of y.book y.sites) i j
+    a : HasRun (rounds_of y.book y.sites) i j
     a = base_is i j e
 
-    b : IsOf (rounds_of y.book y.sites) k l
+    b : HasRun (rounds_of y.book y.sites) k l
     b = base_is k l f
 
     one : a.round ≡ b.round

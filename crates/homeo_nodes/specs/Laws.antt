@@ -7,6 +7,7 @@ use Rattle.homeo_meaning.specs.declared.call.CallId.{CallId}
 use Rattle.homeo_history.specs.Answers.{Answer, answers_of}
 use Rattle.homeo_history.specs.Follows.{Follows}
 use Rattle.homeo_history.specs.History.{Round}
+use Rattle.homeo_history.specs.Legal.{IsSerialFrom}
 use Rattle.homeo_history.specs.Merge.{segment_of}
 use Rattle.homeo_site.specs.SiteState.{renewed}
 use Rattle.homeo_core.specs.Joined.{rounds_of, history_of}
@@ -14,9 +15,9 @@ use Rattle.homeo_nodes.specs.declared.breach.Breach.{Breach}
 use Rattle.homeo_nodes.specs.Key.{definitions}
 use Rattle.homeo_nodes.specs.Making.{Joint, Called, made_all, AreCalls, first_joint}
 use Rattle.homeo_nodes.specs.Nodes.{Said, Packet, Stop, State, left_of, Journal, Node, is_running, calls_at, next_of, newest, closed, World, Event, resent, most_waiting, reached}
-use Rattle.homeo_history.specs.Legal.{IsSerialFrom}
 use Rattle.homeo_nodes.specs.Told.{answers_in}
 
+-- ---- one round
 abbrev pub journals : World → List Journal
 unfolding definitions
 journals x = map (λ n. n.journal) x.nodes
@@ -40,7 +41,7 @@ OneRound = (w : s.Workload) (events : List Event) → IsAccepted w → HasOneRou
 -- ---- the history
 -- the rounds that the node of this number has left are the first of these, as it has run them, and it is in the next one, on its base and
 -- with what was made in it at its site
-pub record IsOf (rounds : List Round) (i : ℕ) (j : Journal) : Type 0 where
+pub record HasRun (rounds : List Round) (i : ℕ) (j : Journal) : Type 0 where
   pub left : j.left ≡ map (left_of i) (take j.site.round rounds)
   pub round : Round
   pub here : slice_get rounds j.site.round ≡ Some round
@@ -71,16 +72,18 @@ pub record IsOnce (calls : List Called) (i : ℕ) (n : Node) : Type 0 where
   pub queue : n.queue ≡ made ++ waits
   pub running : is_running n.mode ≡ true → made ≡ []
 
+-- what the core makes of these calls, from the initial database on
 abbrev pub joint_of : s.Workload → List Called → Joint
 unfolding definitions
 joint_of w calls = made_all w calls (first_joint w)
 
--- the core makes of these calls, one after another from the initial database on, rounds that each node has run as they stand there, and the
--- sites of those nodes that are in the last one; and at each site they are what its node has taken on
+-- these calls, made by the core one after another from the initial database on, are what the nodes have done: each node has run its rounds
+-- as they stand there, and one that is in the last of them has its site there; what it has answered stands there; and at each site they are
+-- the calls that its node has taken on. That history is serial, and follows this list
 pub record IsStory (w : s.Workload) (x : World) (calls : List Called) : Type 0 where
   pub at_sites : AreCalls w calls
   pub journals_are : (i : ℕ) (j : Journal) → slice_get (journals x) i ≡ Some j →
-      IsOf (rounds_of (joint_of w calls).book (joint_of w calls).sites) i j
+      HasRun (rounds_of (joint_of w calls).book (joint_of w calls).sites) i j
   pub sites : (i : ℕ) (j : Journal) → slice_get (journals x) i ≡ Some j → j.site.round ≡ length (joint_of w calls).book.closed →
       slice_get (joint_of w calls).sites i ≡ Some j.site
   pub answered : (i : ℕ) (j : Journal) → slice_get (journals x) i ≡ Some j →

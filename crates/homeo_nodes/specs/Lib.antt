@@ -1,5 +1,6 @@
 pub mod Brief
 pub mod Coming
+pub mod Holding
 pub mod Key
 pub mod Laws
 pub mod Making
