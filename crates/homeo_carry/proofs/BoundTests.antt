@@ -1,19 +1,8 @@
 -- Values that are within bounds, place by place.
-use Rattle.std.proofs.Common.{◌≡◌, ℕ, zero, suc, ◌+◌, ◌<◌, ◌≤◌, List, [], ◌∷◌, length, take, map, get_or, nat_eq, true, ℤ, Option, Some, None, refl, sym, ap, subst, ◌∙◌, arith}
-use Rattle.std.proofs.lemmas.Bool.Decides.{nat_tests}
-use Rattle.std.proofs.lemmas.List.{take_all, length-map}
-use Rattle.homeo_syntax.specs.Source as s
-use Rattle.homeo_meaning.specs.Key.{definitions as meaning_definitions}
+use Rattle.std.proofs.Common.{◌≡◌, ℕ, zero, suc, ◌+◌, ◌<◌, ◌≤◌, List, [], ◌∷◌, length, take, map, get_or, ℤ, sym, ap, subst, arith}
+use Rattle.std.proofs.lemmas.List.{take_all}
 use Rattle.homeo_meaning.specs.Bounds.{Bounds, IsIn, AreIn}
-use Rattle.homeo_meaning.specs.declared.call.CallId.{CallId}
-use Rattle.homeo_history.specs.Key.{definitions as history_definitions}
-use Rattle.homeo_history.specs.Legal.{IsClientAt, IsCallAt, call_count}
-use Rattle.homeo_meaning.specs.Serial.{numbered}
 use Rattle.homeo_meaning.proofs.Within.{length_in}
-use Rattle.homeo_history.proofs.ClientAnswers.{client_at, one_site}
-use Rattle.homeo_history.proofs.Exists.{is_call_at, client_lt, local_exists}
-use Rattle.std.specs.Prelude.{IsSome, slice_get}
-use Rattle.std.specs.Option.{option_and_then}
 
 in_suc : (bs : List Bounds) (vs : List ℤ) (i : ℕ) (b : Bounds) (v : ℤ) → i < length bs → i < length vs → b ≡ get_or bs i b → v ≡ get_or vs i v → IsIn b v → AreIn (take i bs) (take i vs) → AreIn (take (suc i) bs) (take (suc i) vs)
 in_suc [] vs i b v lt lv e f one all = absurd (omega (arith, lt))

@@ -48,6 +48,10 @@ fn is_in(bounds: &Bounds, value: &i64) -> bool
 }
 
 /// The bounds of every object, in the order of their numbers.
+///
+/// # Errors
+///
+/// `Memory` when out of memory.
 pub fn all_bounds(alloc: Global, w: &Accepted) -> Result<Vec<Bounds>, Memory>
     ensures { IfOk result (λ b. map plain_bounds b.items ≡ all_bounds (schema_of (plain_workload w.now))) }
 {

@@ -1,9 +1,10 @@
 //! The calls that states carry.
 
-ghost use Rattle.std.specs.Prelude.{◌≡◌, ◌++◌, ◌≤◌, ◌<◌, ◌==◌, cond, drop, take, length, map, IfOk, OnOk};
+ghost use Rattle.std.specs.Prelude.{◌≡◌, ◌++◌, ◌≤◌, ◌<◌, ◌%◌, drop, length, map, IfOk, OnOk};
 ghost use Rattle.homeo_syntax.specs.SourceView.{plain_workload};
+ghost use Rattle.homeo_meaning.specs.Acceptance.{IsAccepted};
 ghost use Rattle.homeo_plan.specs.Planned.{sites_of};
-ghost use Rattle.homeo_nodes.specs.Nodes.{called, rest_of, calls_from, carried};
+ghost use Rattle.homeo_nodes.specs.Nodes.{called, rest_of, calls_at, calls_from, carried};
 ghost use Rattle.homeo_carry.specs.CarryView.{plain_said};
 ghost use Rattle.homeo_carry.specs.inner.Carrying.{plain_called};
 
@@ -28,7 +29,8 @@ pub(crate) fn carried_calls(
     u: Breach,
     states: &[Said],
 ) -> Result<Vec<Called>, Memory>
-    requires { length states.now ≡ sites_of (plain_workload w.now) }
+    requires accepted { IsAccepted (plain_workload w.now) }
+    requires states { length states.now ≡ sites_of (plain_workload w.now) }
     ensures { IfOk result (λ calls. map plain_called calls.items ≡ carried (plain_workload w.now) u (map plain_said states.now)) }
 {
     let mut calls = Vec::new(alloc);
@@ -55,21 +57,38 @@ fn push_calls(u: Breach, first: u32, states: &[Said], calls: &mut Vec<Called>) -
         map plain_called calls.old.items ++ calls_from u first (drop first (map plain_said states.now))) }
 {
     for site in first..states.len() as u32 {
-        push_site(u, site, states[site as usize].calls.as_slice(), calls)?;
+        push_site(site, calls_at(u, site, &states[site as usize]), calls)?;
     }
     Ok(())
 }
 
-/// Appends the calls that the state of a site carries: at the site of the call that closed the round all but the first, which is
-/// that call.
-#[tactic(auto, unfolding(homeo_nodes::specs::Key::definitions))]
-fn push_site(u: Breach, site: u32, said: &[CallId], calls: &mut Vec<Called>) -> Result<(), Memory>
-    ensures { OnOk result (map plain_called calls.new.items ≡
-        map plain_called calls.old.items ++ map (called site) (cond (site == u.site) (rest_of said.now) said.now)) }
+/// Appends the calls of a site.
+fn push_site(site: u32, said: &[CallId], calls: &mut Vec<Called>) -> Result<(), Memory>
+    ensures { OnOk result (map plain_called calls.new.items ≡ map plain_called calls.old.items ++ map (called site) said.now) }
 {
-    let first = usize::from(site == u.site);
-    for call in said.iter().skip(first) {
+    for call in said {
         calls.push(Called { site, call: *call })?;
     }
     Ok(())
+}
+
+/// The calls that the state of a site carries: at the site of the call that closed the round all but the first, which is that call.
+fn calls_at(u: Breach, site: u32, said: &Said) -> &[CallId]
+    ensures { result.now ≡ calls_at u site (plain_said said.now) }
+{
+    if site == u.site {
+        rest_of(said.calls.as_slice())
+    } else {
+        said.calls.as_slice()
+    }
+}
+
+/// All but the first.
+fn rest_of(calls: &[CallId]) -> &[CallId]
+    ensures { result.now ≡ rest_of calls.now }
+{
+    match calls {
+        [] => calls,
+        [_, rest @ ..] => rest,
+    }
 }

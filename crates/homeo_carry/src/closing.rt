@@ -1,19 +1,19 @@
 //! The end of a round at one node.
 
-ghost use Rattle.std.specs.Prelude.{◌≡◌, ◌<◌, ◌^◌, ◌++◌, length, map, IfOk, IfSome, IsSome, OnOk};
+ghost use Rattle.std.specs.Prelude.{◌≡◌, ◌<◌, ◌^◌, Some, slice_get, length, map, IfOk, IfSome, IsSome};
 ghost use Rattle.homeo_syntax.specs.SourceView.{plain_workload};
 ghost use Rattle.homeo_meaning.specs.Acceptance.{IsAccepted};
 ghost use Rattle.homeo_meaning.specs.Bounds.{all_bounds};
 ghost use Rattle.homeo_meaning.specs.Schema.{schema_of};
 ghost use Rattle.homeo_plan.specs.Planned.{sites_of};
-ghost use Rattle.homeo_history.specs.HistoryView.{plain_answer};
 ghost use Rattle.homeo_history.specs.Legal.{IsCallAt};
 ghost use Rattle.homeo_nodes.specs.Coming.{CanClose};
 ghost use Rattle.homeo_carry.specs.CarryView.{plain_bounds, plain_said, journal_of, IsClosed};
 
-use crate::bounds::{Bounds, are_in};
+use crate::answers::Answers;
+use crate::bounds::Bounds;
 use crate::calls::carried_calls;
-use crate::carrying::{make_all, next_round, take_site};
+use crate::carrying::{Rounds, make_all, next_round};
 use crate::said::Said;
 use crate::sums::fold_said;
 use homeo_history::Answer;
@@ -58,31 +58,33 @@ pub fn close(
         return Ok(None);
     };
     let calls = carried_calls(alloc, planner.compiled().workload(), u, states)?;
-    let own = site.number();
+    let answers = Answers::none(alloc, site.number());
     let here = Breach {
         round: site.round(),
-        site: u.site,
-        call: u.call,
-        broken: u.broken,
+        ..u
     };
-    let mut answers = List::new(alloc);
-    let Some(next) = next_round(alloc, planner, bounds, own, here, whole, &mut answers)? else {
+    let Some(next) = next_round(alloc, planner, bounds, answers, here, whole)? else {
         return Ok(None);
     };
-    let Some(made) = make_all(
-        alloc,
-        planner,
-        bounds,
-        own,
-        next,
-        calls.as_slice(),
-        &mut answers,
-    )?
-    else {
+    let Some(made) = make_all(alloc, planner, bounds, next, calls.as_slice())? else {
         return Ok(None);
     };
-    Ok(Some(Closed {
-        site: take_site(made, own),
+    Ok(Some(outcome_of(made)))
+}
+
+/// What the node goes on with when all calls are made.
+fn outcome_of(x: Rounds) -> Closed
+    requires { x.answers.own < length x.sites.items }
+    ensures site { slice_get x.sites.items x.answers.own ≡ Some result.site }
+    ensures answers { result.answers ≡ x.answers.given }
+{
+    let Rounds {
+        mut sites,
         answers,
-    }))
+        ..
+    } = x;
+    Closed {
+        site: sites.swap_remove(answers.own as usize),
+        answers: answers.given,
+    }
 }

@@ -2,6 +2,7 @@
 //! carry, each at its own site, which may lead through further rounds.
 #![tactic(auto)]
 
+mod answers;
 mod bounds;
 mod calls;
 mod carrying;

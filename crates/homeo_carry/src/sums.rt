@@ -101,11 +101,7 @@ pub(crate) fn fold_said(
 /// # Errors
 ///
 /// `Memory` when out of memory.
-pub fn plus(
-    alloc: Global,
-    values: &[i64],
-    deltas: &[i64],
-) -> Result<Option<Database>, Memory>
+pub fn plus(alloc: Global, values: &[i64], deltas: &[i64]) -> Result<Option<Database>, Memory>
     ensures sum { IfOk result (λ o. IfSome o (λ d. d.items ≡ plus_deltas values.now deltas.now)) }
 {
     let mut sum = Vec::from_slice(alloc, values)?;
