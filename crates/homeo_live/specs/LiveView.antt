@@ -1,8 +1,10 @@
 -- What values of the types stand for, wherever their parts lie in memory.
-use Rattle.std.specs.Prelude.{◌≡◌, ◌<◌, ◌^◌, ◌++◌, List, Option, map, option_map}
+use Rattle.std.specs.Prelude.{◌≡◌, ℕ, ◌<◌, ◌^◌, ◌++◌, List, Option, Some, map, option_map, slice_get}
+use Rattle.homeo_syntax.specs.Source as s
 use Rattle.homeo_syntax.specs.declared.workload.Workload.{Workload}
 use Rattle.homeo_history.specs.HistoryView.{plain_answer}
 use Rattle.homeo_nodes.specs.Nodes as n
+use Rattle.homeo_nodes.specs.Nodes.{reached}
 use Rattle.homeo_nodes.specs.Small.{Small, small}
 use Rattle.homeo_carry.specs.CarryView.{plain_said}
 use Rattle.homeo_carry.specs.declared.said.Said.{Said}
@@ -54,6 +56,14 @@ plain_node s = record {
 pub record LiveValue : Type 0 where
   pub work : Workload
   pub node : Small
+
+-- events have led a node of the workload here
+pub record IsReached (w : s.Workload) (x : Small) : Type 0 where
+  pub events : List n.Event
+  pub site : ℕ
+  pub node : n.Node
+  pub there : slice_get (reached w events).nodes site ≡ Some node
+  pub is : x ≡ small node
 
 -- the node, the packets after those before, and what the input came to are those of the reaction
 pub record IsReaction (r : n.Reaction) (new : Small) (before after : List Packet) (step : Step) : Type 0 where

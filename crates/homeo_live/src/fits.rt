@@ -5,12 +5,12 @@ ghost use Rattle.homeo_syntax.specs.SourceView.{plain_workload};
 ghost use Rattle.homeo_meaning.specs.Bounds.{all_bounds};
 ghost use Rattle.homeo_meaning.specs.Schema.{schema_of};
 ghost use Rattle.homeo_carry.specs.CarryView.{plain_bounds};
-ghost use Rattle.homeo_live.specs.inner.Standing.{HasShape, IsModeOf, IsQueueOf, IsFit};
+ghost use Rattle.homeo_live.specs.inner.Standing.{HasShape, IsModeOf, IsQueueOf, AreFitting, IsFit};
 
 use crate::queue::MOST_WAITING;
 use crate::state::{NodeState, Past};
 use homeo_carry::{Bounds, are_in, plus};
-use homeo_core::clients::{is_call_at, site_count};
+use homeo_core::clients::{client_count, is_call_at, site_count};
 use homeo_meaning::{Accepted, CallId};
 use homeo_nodes::Mode;
 use homeo_syntax::Memory;
@@ -33,13 +33,28 @@ pub(crate) fn is_fit(
     if !queue_fits(w, state.site, state.queue.as_slice()) {
         return Ok(false);
     }
-    if !are_in(bounds, state.base.as_slice()) {
+    let base = state.base.as_slice();
+    values_fit(alloc, w, bounds, base, state.deltas.as_slice())
+}
+
+/// Whether a base is within bounds, and has a delta for each value, with which it still is.
+fn values_fit(
+    alloc: Global,
+    w: &Accepted,
+    bounds: &[Bounds],
+    base: &[i64],
+    deltas: &[i64],
+) -> Result<bool, Memory>
+    requires bounds { map plain_bounds bounds.now ≡ all_bounds (schema_of (plain_workload w.now)) }
+    ensures yes { IfOk result (λ ok. IsTrue ok → AreFitting (plain_workload w.now) base.now deltas.now) }
+    ensures no { IfOk result (λ ok. AreFitting (plain_workload w.now) base.now deltas.now → IsTrue ok) }
+{
+    // the workload is accepted
+    let _clients = client_count(w);
+    if !are_in(bounds, base) || deltas.len() != bounds.len() {
         return Ok(false);
     }
-    if state.deltas.as_slice().len() != bounds.len() {
-        return Ok(false);
-    }
-    match plus(alloc, state.base.as_slice(), state.deltas.as_slice())? {
+    match plus(alloc, base, deltas)? {
         Some(sum) => Ok(are_in(bounds, sum.as_slice())),
         None => Ok(false),
     }

@@ -1,6 +1,6 @@
 //! A node that runs by itself.
 
-ghost use Rattle.std.specs.Prelude.{◌≡◌, ◌<◌, ◌≤◌, ◌==◌, ◌%◌, ◌&&◌, not, ◌∷◌, ◌++◌, [], ℕ, Some, None, is_some, true, IsTrue, length, map, option_map, slice_get, slice_index_or, IfOk, IfSome, IsSome, OnOk, OnErr};
+ghost use Rattle.std.specs.Prelude.{◌≡◌, ◌<◌, ◌≤◌, ◌==◌, ◌%◌, ◌&&◌, not, ◌∷◌, ◌++◌, [], Some, None, is_some, true, IsTrue, length, map, option_map, slice_index_or, IfOk, IfSome, IsSome, OnOk, OnErr};
 ghost use Rattle.homeo_syntax.specs.SourceView.{plain_workload};
 ghost use Rattle.homeo_meaning.specs.declared.call.CallId.{CallId};
 ghost use Rattle.homeo_plan.specs.Planned.{sites_of};
@@ -9,10 +9,10 @@ ghost use Rattle.homeo_site.specs.SiteState.{step_finding};
 ghost use Rattle.homeo_nodes.specs.declared.breach.Mode.TheVariants.{Stopped};
 ghost use Rattle.homeo_nodes.specs.Coming.{CanCome};
 ghost use Rattle.homeo_nodes.specs.Nodes as n;
-ghost use Rattle.homeo_nodes.specs.Nodes.{asked, served, served_by, received, taken, resent, of_mode, of_own, said_by, first_node, reached, all_of, settled, closing_step};
+ghost use Rattle.homeo_nodes.specs.Nodes.{asked, served, served_by, received, taken, resent, of_mode, of_own, said_by, first_node, all_of, settled, closing_step};
 ghost use Rattle.homeo_nodes.specs.Small.{small, grown};
 ghost use Rattle.homeo_carry.specs.CarryView.{plain_said};
-ghost use Rattle.homeo_live.specs.LiveView.{plain_packet, plain_step, plain_state, plain_past, plain_node, IsReaction, HasNext};
+ghost use Rattle.homeo_live.specs.LiveView.{plain_packet, plain_step, plain_state, plain_past, plain_node, IsReached, IsReaction, HasNext};
 ghost use Rattle.homeo_live.specs.inner.Standing.{IsModeOf, CanSettle, placed};
 
 use crate::fits::is_fit;
@@ -105,8 +105,7 @@ impl LiveNode {
         state: NodeState,
     ) -> Result<Option<LiveNode>, Memory>
         ensures state { IfOk result (λ o. IfSome o (λ x. x ≡ record { work = c.value; node = plain_node state })) }
-        ensures reached { (events : List n.Event) (i : ℕ) (x : n.Node) → slice_get (reached (plain_workload c.value) events).nodes i ≡ Some x →
-            plain_node state ≡ small x → IfOk result IsSome }
+        ensures reached { IsReached (plain_workload c.value) (plain_node state) → IfOk result IsSome }
     {
         // the workload is accepted
         let _clients = client_count(c.workload());

@@ -1,5 +1,5 @@
 -- A node as it lies in memory.
-use Rattle.std.specs.Prelude.{◌≡◌, ◌<◌, ◌≤◌, ◌+ℤ◌, ℕ, All, IfSome, List, [], length, map, Option, option_map, Some}
+use Rattle.std.specs.Prelude.{◌≡◌, ◌<◌, ◌≤◌, ◌+ℤ◌, ℕ, ℤ, All, IfSome, List, [], length, map, Option, option_map, Some}
 use Rattle.homeo_syntax.specs.Source as s
 use Rattle.homeo_syntax.specs.SourceView.{plain_workload}
 use Rattle.homeo_syntax.specs.declared.workload.Workload.{Workload}
@@ -14,8 +14,9 @@ use Rattle.homeo_site.specs.BareView.{BareValue}
 use Rattle.homeo_site.specs.SiteState.{SiteState}
 use Rattle.homeo_nodes.specs.declared.breach.Breach.{Breach}
 use Rattle.homeo_nodes.specs.declared.breach.Mode.{Mode}
-use Rattle.homeo_nodes.specs.declared.breach.Mode.TheVariants.{Running, Waiting, Stopped}
+use Rattle.homeo_nodes.specs.declared.breach.Mode.TheVariants.{Stopped}
 use Rattle.homeo_nodes.specs.Coming.{CanClose}
+pub use Rattle.homeo_nodes.specs.Holding.{IsModeOf}
 use Rattle.homeo_nodes.specs.Nodes as n
 use Rattle.homeo_nodes.specs.Nodes.{Node, all_of, most_waiting}
 use Rattle.homeo_nodes.specs.Small.{Small, grown}
@@ -39,12 +40,6 @@ node_of x mode decided states past queue = record {
   past = option_map plain_past past;
   queue = queue;
 }
-
--- the call by which a node doesn't run is one of a client of its site
-abbrev pub IsModeOf : s.Workload → Mode → Type 0
-IsModeOf w Running = Unit {0}
-IsModeOf w (Waiting b) = IsCallAt w b.site b.call
-IsModeOf w (Stopped b) = IsCallAt w b.site b.call
 
 -- each call is one of a client of the site
 abbrev pub AreCallsOf : s.Workload → ℕ → List CallId → Type 0
@@ -79,10 +74,14 @@ pub record IsQueueOf (w : s.Workload) (site : ℕ) (queue : List CallId) : Type 
   pub few : length queue ≤ most_waiting
   pub calls : AreCallsOf w site queue
 
+-- a base is within bounds, and has a delta for each value, with which it still is
+pub record AreFitting (w : s.Workload) (base deltas : List ℤ) : Type 0 where
+  pub within : IsWithin (schema_of w) base
+  pub count : length deltas ≡ length base
+  pub all : AllWithin (schema_of w) (λ n. values_of base n +ℤ values_of deltas n)
+
 pub record IsFit (w : s.Workload) (x : NodeState) : Type 0 where
   pub shape : HasShape (sites_of w) x
   pub mode_of : IsModeOf w x.mode
   pub queue_of : IsQueueOf w x.site x.queue.items
-  pub within : IsWithin (schema_of w) x.base.items
-  pub deltas : length x.deltas.items ≡ length x.base.items
-  pub all : AllWithin (schema_of w) (λ n. values_of x.base.items n +ℤ values_of x.deltas.items n)
+  pub values : AreFitting w x.base.items x.deltas.items
