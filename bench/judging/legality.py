@@ -189,8 +189,8 @@ CHECKS = {
 }
 
 
-def judge(workload, history, treaties, count, seed, command):
-    """The verdict on a legal history that a command tells, or `Illegal`."""
+def checked(workload, history, treaties, count, seed, command):
+    """The verdict on a legal history that a command tells, and the base of each round; or `Illegal`."""
     check_shape(workload, history)
     for check in CHECKS[command]:
         check(workload, history)
@@ -201,4 +201,9 @@ def judge(workload, history, treaties, count, seed, command):
     check_treaties(history, bases, treaties, calls)
     closing = len(history.rounds) - 1
     local = history.calls() - closing
-    return Verdict(len(bases), local, closing, merges.whole, merges.sampled, treaties.derived, treaties.asked, treaties.refused)
+    return Verdict(len(bases), local, closing, merges.whole, merges.sampled, treaties.derived, treaties.asked, treaties.refused), bases
+
+
+def judge(*given):
+    """The verdict on a legal history that a command tells, or `Illegal`."""
+    return checked(*given)[0]
