@@ -29,11 +29,11 @@ class Habits:
         self.loss = chosen.choice([0, 0, 0.05, 0.2, 0.4])
         self.repeats = chosen.choice([0, 0.1, 0.3])
         self.reorders = chosen.random() < 0.7
-        self.partitions = chosen.choice([0, 0.02, 0.05])
+        self.partitions = chosen.choice([0, 0.01, 0.03])
         self.kills = chosen.choice([0, 0.01, 0.03, 0.08])
         self.calls, self.ticks = chosen.choice([1, 3, 6]), chosen.choice([0.1, 0.3, 1])
         self.by_snapshots = chosen.random() < 0.5 if by_snapshots is None else by_snapshots
-        self.events = chosen.choice([100, 300, 600, 1_000])
+        self.events = chosen.choice([100, 300, 1_000, 3_000])
 
 
 class Caller:
@@ -99,7 +99,7 @@ class Run:
 
     # ---- events
     def event(self):
-        ways = [(self.call, self.habits.calls), (self.deliver, 15), (self.tick, self.habits.ticks), (self.begin_again, 1)]
+        ways = [(self.call, self.habits.calls), (self.deliver, 15), (self.tick, self.habits.ticks), (self.begin_again, 4)]
         ways += [(self.part, 20 * self.habits.partitions), (self.kill, 20 * self.habits.kills)]
         self.random.choices([it for it, _ in ways], [weight for _, weight in ways])[0]()
 

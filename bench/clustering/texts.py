@@ -29,7 +29,7 @@ def hot(seed):
     most = chosen.choice([6, 12, 30, 100])
     names = sorted({first, last})
     lists = ["buy(1); buy(2); buy(3); buy(4)", "buy(1); buy(1); buy(3)", "buy(2); refill()"]
-    clients = [(f"c{site}{number}", site, chosen.choice(lists)) for site in range(3) for number in range(chosen.choice([1, 2, 3]))]
+    clients = [(f"c{site}{number}", site, chosen.choice(lists)) for site in range(3) for number in range(chosen.choice([1, 2, 3, 8]))]
     version = chosen.choice([1, 2])
     return HOT.format(
         version=version,
