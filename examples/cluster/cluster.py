@@ -77,6 +77,16 @@ class Site:
         if self.process and not self.process.stdin.is_closing():
             self.process.stdin.write(b"".join(line + b"\n" for line in lines))
 
+    async def end(self):
+        """Ends the process by the end of its input, and where that doesn't do by force."""
+        if self.process:
+            self.process.stdin.close()
+            try:
+                await asyncio.wait_for(self.process.wait(), PATIENCE)
+            except asyncio.TimeoutError:
+                self.process.kill()
+                await self.process.wait()
+
     # ---- what comes
     def take(self, line):
         """A line for the node. What comes at once is kept at once."""
@@ -179,9 +189,7 @@ class Cluster:
             for task in (ticking, watching, *(it.reading for it in self.sites)):
                 task.cancel()
             server.close()
-            for site in self.sites:
-                if site.process:
-                    site.process.stdin.close()
+            await asyncio.gather(*(it.end() for it in self.sites))
 
     def end(self, fault=None):
         """Ends the cluster, because of a fault where there is one."""
