@@ -1,6 +1,7 @@
 #!/usr/bin/env python3
 """cluster.py TEXT [--dir DIR]     runs the sites of a text as nodes on this machine, a process each, until it is ended
-cluster.py --status DIR           what the nodes of a running cluster are, and what was answered (--json, --prometheus)
+cluster.py --status DIR           what the nodes of a running cluster are, and what was answered (--json, --prometheus), or the database
+                                  alone, of a cluster at rest, as a report has it (--database)
 cluster.py --stop DIR             ends the cluster; begun again, it goes on from there
 
 --rtt MS      what is sent from site to site takes half so many milliseconds (0)
@@ -34,6 +35,8 @@ import status
 from keeping import Kept
 
 ROOT = pathlib.Path(__file__).resolve().parents[2]
+# The forms of a status beside that for people.
+FORMS = ["json", "prometheus", "database"]
 # The longest line.
 LONGEST = 1 << 26
 # The seconds within which a node tells its status, and between two ticks, at least; a node that lives shorter than the first has failed, and
@@ -352,19 +355,19 @@ def main():
     parser.add_argument("--lines", type=int, default=2_000)
     parser.add_argument("--status", metavar="DIR")
     parser.add_argument("--stop", metavar="DIR")
-    for name in ("--fsync", "--fresh", "--json", "--prometheus"):
+    for name in ("--fsync", "--fresh", *(f"--{form}" for form in FORMS)):
         parser.add_argument(name, action="store_true")
     chosen = parser.parse_args()
     if sum(it is not None for it in (chosen.text, chosen.status, chosen.stop)) != 1:
         parser.error("a text is needed, or --status or --stop with the folder of a cluster")
     try:
         if chosen.status:
-            print(status.said(chosen.status, "json" if chosen.json else "prometheus" if chosen.prometheus else "table"), end="")
+            print(status.said(chosen.status, next((form for form in FORMS if vars(chosen)[form]), "table")), end="")
         elif chosen.stop:
             stop(chosen.stop)
         else:
             run(chosen)
-    except (Unable, OSError) as fault:
+    except (Unable, status.Busy, OSError) as fault:
         sys.exit(f"cluster.py: {fault}")
 
 

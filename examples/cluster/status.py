@@ -12,6 +12,8 @@ AT_ONCE = 0.005
 BUCKETS = [0.0005, 0.001, 0.005, 0.025, 0.1, 0.5, 2.5]
 # The objects and the calls that people are shown, and the seconds within which a cluster answers.
 MOST_OBJECTS, MOST_CALLS, PATIENCE = 30, 5, 10
+# How often a cluster is asked whose sites aren't in one round, and the seconds between.
+MOST_ASKED, BETWEEN = 5, 0.1
 
 
 # ---- in the runner
@@ -77,7 +79,16 @@ def sum_of(sites):
 
 # ---- for who asks
 def told(folder):
-    """The status of the cluster in a folder."""
+    """The status of the cluster in a folder. Sites that are on their way to one round are asked again for a while."""
+    for _ in range(MOST_ASKED):
+        body = told_now(folder)
+        if body["sum"] is not None or any(it["mode"] == "silent" for it in body["sites"]):
+            break
+        time.sleep(BETWEEN)
+    return body
+
+
+def told_now(folder):
     with socket.socket(socket.AF_UNIX) as asking:
         asking.settimeout(PATIENCE)
         asking.connect(str(pathlib.Path(folder) / "socket"))
@@ -131,11 +142,23 @@ def said(folder, form):
     """The status of the cluster in a folder, in a form."""
     body = told(folder)
     body["closings_by_object"] = closings_by_object(folder, body)
-    return {"json": as_json, "prometheus": as_page, "table": as_table}[form](body)
+    return {"json": as_json, "prometheus": as_page, "table": as_table, "database": as_database}[form](body)
 
 
 def as_json(body):
     return json.dumps({key: value for key, value in body.items() if key not in ("type", "in_reply_to")}, indent=1) + "\n"
+
+
+class Busy(Exception):
+    """The cluster isn't at rest: calls are open, or nodes aren't all running in one round."""
+
+
+def as_database(body):
+    """The database of a cluster at rest, as a report ends with it, but for relations."""
+    if body["sum"] is None or body["open"] or any(it["mode"] != "running" for it in body["sites"]):
+        raise Busy("calls are open, or nodes aren't all running in one round, so there is no last database")
+    values = "".join(f"{name} = {value}\n" for name, value in body["sum"].items())
+    return f"round {body['sites'][0]['round']}\ndatabase\n{values}"
 
 
 def total(body, what):
@@ -156,7 +179,7 @@ def as_table(body):
     """For people."""
     lines = []
     for it in body["sites"]:
-        waits = f", {it['waiting']} waiting" if it.get("waiting") else ""
+        waits = f", calls that wait: {it['waiting']}" if it.get("waiting") else ""
         again = f"; restarts: {it['restarts']}" if it["restarts"] else ""
         lines.append(f"site {it['site']}: {it['mode']}" + (f" in round {it['round']}{waits}" if "round" in it else "") + again)
     lines += objects_table(body)
