@@ -24,7 +24,6 @@ import json
 import os
 import pathlib
 import re
-import shutil
 import signal
 import subprocess
 import sys
@@ -89,6 +88,7 @@ class Site:
             except asyncio.TimeoutError:
                 self.process.kill()
                 await self.process.wait()
+        (self.kept.folder / "pid").unlink(missing_ok=True)
 
     # ---- what comes
     def take(self, line):
@@ -282,10 +282,8 @@ class Cluster:
 
 
 # ---- the command
-def prepared(folder, text, is_fresh):
-    """The folder of a cluster of this text, held as long as this process lives."""
-    if is_fresh:
-        shutil.rmtree(folder, ignore_errors=True)
+def held_folder(folder, is_fresh):
+    """The folder of a cluster, held as long as this process lives, so that no other runner works there."""
     folder.mkdir(parents=True, exist_ok=True)
     held = open(folder / "runner", "a+", encoding="ascii")
     try:
@@ -295,11 +293,18 @@ def prepared(folder, text, is_fresh):
     held.truncate(0)
     held.write(f"{os.getpid()}\n")
     held.flush()
-    if (folder / "text").exists() and (folder / "text").read_bytes() != text:
-        raise Unable(f"{folder} has a cluster of another text (docs/NODES.md says how one goes on with another)")
-    (folder / "text").write_bytes(text)
+    for it in [*folder.glob("n*/*"), folder / "text"] if is_fresh else []:
+        it.unlink(missing_ok=True)
     (folder / "socket").unlink(missing_ok=True)
     return held
+
+
+def keep_text(folder, text):
+    """Keeps the text of a cluster, which has one as long as it lives."""
+    kept = folder / "text"
+    if kept.exists() and kept.read_bytes() != text:
+        raise Unable(f"{folder} has a cluster of another text (docs/NODES.md says how one goes on with another)")
+    kept.write_bytes(text)
 
 
 def node_program():
@@ -322,9 +327,10 @@ def check_text(node, path, text):
 def run(chosen):
     path = pathlib.Path(chosen.text)
     text = path.read_bytes()
-    folder, node = pathlib.Path(chosen.dir or f"{path.stem}.cluster"), node_program()
+    folder = pathlib.Path(chosen.dir or f"{path.stem}.cluster")
+    held, node = held_folder(folder, chosen.fresh), node_program()
     check_text(node, path, text)
-    held = prepared(folder, text, chosen.fresh)
+    keep_text(folder, text)
     cluster = Cluster(text, folder, node, chosen.rtt / 1_000, chosen.fsync, chosen.lines)
     clients = ", ".join(f"{name} at {site}" for name, site in cluster.clients.items())
     print(f"{len(cluster.ids)} sites of {path} in {folder}; clients: {clients}", flush=True)
