@@ -18,10 +18,6 @@ MERGES, TREATIES = 12, 200
 FULL, LATE = 11, 13
 
 
-class Refused(Exception):
-    """The text is refused."""
-
-
 class Habits:
     """What is usual in a run: how much is lost, how lines are kept, how often nodes are killed."""
 

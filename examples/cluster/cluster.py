@@ -304,7 +304,10 @@ def keep_text(folder, text):
     kept = folder / "text"
     if kept.exists() and kept.read_bytes() != text:
         raise Unable(f"{folder} has a cluster of another text (docs/NODES.md says how one goes on with another)")
-    kept.write_bytes(text)
+    if not kept.exists():
+        new = folder / "text.new"
+        new.write_bytes(text)
+        new.replace(kept)
 
 
 def node_program():
