@@ -8,7 +8,7 @@ import subprocess
 import sys
 
 ROOT = pathlib.Path(__file__).resolve().parent.parent
-BUILT = ROOT / ".build" / "homeo"
+BUILT, NODE = ROOT / ".build" / "homeo", ROOT / ".build" / "node"
 # The seconds that a group has to end by itself.
 PATIENCE = 5
 
@@ -21,28 +21,33 @@ def listing():
     return (f"{rt}\n" if rt else "").encode() + subprocess.run(words, cwd=ROOT, capture_output=True).stdout
 
 
-def is_current():
-    """Whether .build/homeo is there, and the files that it was made of are as they were."""
+def is_current(built=BUILT):
+    """Whether a program that was built is there, and the files that it was made of are as they were."""
     try:
-        return os.access(BUILT, os.X_OK) and (ROOT / ".build" / "listing").read_bytes() == listing()
+        return os.access(built, os.X_OK) and (ROOT / ".build" / "listing").read_bytes() == listing()
     except OSError:
         return False
 
 
-def chosen(given=None):
+def chosen(given=None, variable="HOMEO", built=BUILT, words=("homeo", "steps"), text=b"workload 1 sites 1 end"):
     """The program that is given, or else that of $HOMEO, or else .build/homeo, which is built first where it isn't current."""
-    found = given or os.environ.get("HOMEO")
+    found = given or os.environ.get(variable)
     if found:
         if not shutil.which(found):
             sys.exit(f"{pathlib.Path(sys.argv[0]).name}: there is no program {found}")
         return found
-    if not is_current():
-        say = "the program isn't there, or its sources have changed: ./homeo looks, and builds it where it has to, in some two minutes"
+    if not is_current(built):
+        say = f"the program isn't there, or its sources have changed: ./{words[0]} looks, and builds it where it has to, in some two minutes"
         print(f"{pathlib.Path(sys.argv[0]).name}: {say} (or give a program by --program PATH)", file=sys.stderr, flush=True)
-        built = run([str(ROOT / "homeo"), "steps"], input=b"workload 1 sites 1 end", stdout=subprocess.DEVNULL)
-        if built.returncode:
-            sys.exit(built.returncode)
-    return str(BUILT)
+        ran = run([str(ROOT / words[0]), *words[1:]], input=text, stdout=subprocess.DEVNULL)
+        if ran.returncode:
+            sys.exit(ran.returncode)
+    return str(built)
+
+
+def chosen_node(given=None):
+    """The node that is given, or else that of $NODE, or else .build/node, which is built first where it isn't current."""
+    return chosen(given, "NODE", NODE, ["node"], b"workload 1 sites 1\nend\n")
 
 
 def end(started):

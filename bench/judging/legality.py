@@ -31,28 +31,54 @@ def check_shape(workload, history):
             raise Illegal(f"the last line says {what} {said}, and there are {count}")
 
 
-def check_calls(workload, history, is_whole):
-    """Each client's calls stand once and in order, at their site: all of them, or where that isn't asked some first ones."""
-    made = dict.fromkeys(workload.clients, 0)
+def client_of(workload, where, site, entry):
+    """The client of an entry, which stands at its site."""
+    client = workload.clients.get(entry.client)
+    if client is None:
+        raise Illegal(f"{where}: there is no client {entry.client}")
+    if client.site != site:
+        raise Illegal(f"{where}: {entry.client} stands at site {client.site}")
+    return client
+
+
+def entries_with_clients(workload, history):
+    """All entries in their order, each with where it stands and its client."""
     for number, found in enumerate(history.rounds):
         for site, entry in found.entries():
             where = f"round {number}, site {site}: {entry}"
-            client = workload.clients.get(entry.client)
-            if client is None:
-                raise Illegal(f"{where}: there is no client {entry.client}")
-            if client.site != site:
-                raise Illegal(f"{where}: {entry.client} stands at site {client.site}")
-            if made[entry.client] == len(client.calls):
-                raise Illegal(f"{where}: {entry.client} has made all its calls before")
-            if entry.number != made[entry.client] + 1:
-                raise Illegal(f"{where}: call {made[entry.client] + 1} of {entry.client} is next")
-            wanted = client.calls[entry.number - 1]
-            if entry.call != str(wanted):
-                raise Illegal(f"{where}: this call of {entry.client} is {wanted}")
-            made[entry.client] += 1
-    for name, client in workload.clients.items():
-        if is_whole and made[name] < len(client.calls):
-            raise Illegal(f"{name} makes {made[name]} of its {len(client.calls)} calls")
+            yield where, entry, client_of(workload, where, site, entry)
+
+
+def check_first_calls(workload, history):
+    """The calls of each client that stand are its first ones, once and in order, at their site; returns how many they are."""
+    made = dict.fromkeys(workload.clients, 0)
+    for where, entry, client in entries_with_clients(workload, history):
+        if made[entry.client] == len(client.calls):
+            raise Illegal(f"{where}: {entry.client} has made all its calls before")
+        if entry.number != made[entry.client] + 1:
+            raise Illegal(f"{where}: call {made[entry.client] + 1} of {entry.client} is next")
+        wanted = client.calls[entry.number - 1]
+        if entry.call != str(wanted):
+            raise Illegal(f"{where}: this call of {entry.client} is {wanted}")
+        made[entry.client] += 1
+    return made
+
+
+def check_all_calls(workload, history):
+    """Each client's calls stand once and in order, at their site."""
+    for name, made in check_first_calls(workload, history).items():
+        if made < len(workload.clients[name].calls):
+            raise Illegal(f"{name} makes {made} of its {len(workload.clients[name].calls)} calls")
+
+
+def check_listed_calls(workload, history):
+    """Each entry is a call that its client lists, at their site, and its number is the first place there, from 1."""
+    for where, entry, client in entries_with_clients(workload, history):
+        places = [place for place, call in enumerate(client.calls, 1) if str(call) == entry.call]
+        if not places:
+            raise Illegal(f"{where}: {entry.client} doesn't list {entry.call}")
+        if entry.number != places[0]:
+            raise Illegal(f"{where}: the place of {entry.call} in the list of {entry.client} is {places[0]}")
 
 
 def check_schedule(workload, history):
@@ -154,12 +180,20 @@ def check_treaties(history, bases, treaties, calls):
             check_treaty(f"round {number}", found, base, treaty, calls)
 
 
-def judge(workload, history, treaties, count, seed, follows_schedule, is_whole):
-    """The verdict on a legal history, or `Illegal`."""
+# What holds of the calls in a report of each command.
+CHECKS = {
+    "run": [check_all_calls],
+    "steps": [check_all_calls, check_schedule],
+    "wire": [check_first_calls],
+    "nodes": [check_listed_calls],
+}
+
+
+def checked(workload, history, treaties, count, seed, command):
+    """The verdict on a legal history that a command tells, and the base of each round; or `Illegal`."""
     check_shape(workload, history)
-    check_calls(workload, history, is_whole)
-    if follows_schedule:
-        check_schedule(workload, history)
+    for check in CHECKS[command]:
+        check(workload, history)
     calls = {str(call): call for client in workload.clients.values() for call in client.calls}
     merges = Merges(calls, count, seed)
     bases, database = bases_of(history, merges, workload.initial())
@@ -167,4 +201,9 @@ def judge(workload, history, treaties, count, seed, follows_schedule, is_whole):
     check_treaties(history, bases, treaties, calls)
     closing = len(history.rounds) - 1
     local = history.calls() - closing
-    return Verdict(len(bases), local, closing, merges.whole, merges.sampled, treaties.derived, treaties.asked, treaties.refused)
+    return Verdict(len(bases), local, closing, merges.whole, merges.sampled, treaties.derived, treaties.asked, treaties.refused), bases
+
+
+def judge(*given):
+    """The verdict on a legal history that a command tells, or `Illegal`."""
+    return checked(*given)[0]

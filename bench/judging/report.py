@@ -1,4 +1,4 @@
-"""Reads a report of `run` or `steps`, to the letter, as docs/LANGUAGE.md says what one is."""
+"""Reads and writes a report, to the letter, as docs/LANGUAGE.md says what one is."""
 import dataclasses
 import re
 
@@ -18,7 +18,7 @@ class Illegal(Exception):
 
 @dataclasses.dataclass
 class Entry:
-    """A call that was made: the number counts the client's calls from 1."""
+    """A call that was made: the number counts the client's calls from 1, or is under `nodes` the call's place in the client's list."""
 
     client: str
     number: int
@@ -27,6 +27,9 @@ class Entry:
 
     def __str__(self):
         return f"{self.client} {self.number} {self.call}"
+
+    def line(self):
+        return f"{self}:{''.join(f' {it}' for it in self.prints)}"
 
 
 @dataclasses.dataclass
@@ -39,6 +42,9 @@ class Closing:
     bound: int
     entry: Entry
 
+    def lines(self):
+        return [f"close {self.site} clause {self.clause} sum {self.sum} bound {self.bound}", self.entry.line()]
+
 
 @dataclasses.dataclass
 class Round:
@@ -49,6 +55,10 @@ class Round:
         """All calls of the round, each with its site, the closing call last."""
         made = [(site, entry) for site, segment in enumerate(self.segments) for entry in segment]
         return made + ([(self.closing.site, self.closing.entry)] if self.closing else [])
+
+    def lines(self):
+        made = [line for site, segment in enumerate(self.segments) for line in [f"site {site}", *(it.line() for it in segment)]]
+        return made + (self.closing.lines() if self.closing else [])
 
 
 @dataclasses.dataclass
@@ -62,6 +72,11 @@ class History:
 
     def calls(self):
         return sum(len(it.entries()) for it in self.rounds)
+
+    def lines(self):
+        made = [line for number, it in enumerate(self.rounds) for line in [f"round {number}", *it.lines()]]
+        made += ["database", *(f"{name} = {value}" for name, value in self.database)]
+        return made + [f"rounds {self.rounds_said} calls {self.calls_said}"]
 
 
 class Lines:
@@ -127,3 +142,8 @@ def read(text):
     if lines.next < len(lines.lines):
         raise Illegal(f"line {lines.next + 1}: {lines.lines[lines.next]!r} stands behind the last line")
     return History(rounds, database, *map(int, counts))
+
+
+def write(history):
+    """The report that tells a history."""
+    return "".join(f"{line}\n" for line in history.lines())

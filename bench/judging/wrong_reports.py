@@ -48,6 +48,36 @@ tickets = 5
 rounds 4 calls 9
 """
 
+# What nodes may make of the same text: each client some of its calls, in any order, some of them again.
+NODES_REPORT = """round 0
+site 0
+hall 2 buy(4): 4
+hall 1 buy(2): 2
+hall 1 buy(2): 2
+site 1
+web 3 buy(3): 3
+site 2
+kiosk 2 buy(2): 2
+kiosk 2 buy(2): 2
+close 0 clause 0 sum 10 bound 9
+hall 1 buy(2): 2
+round 1
+site 0
+hall 3 buy(1): 1
+site 1
+site 2
+kiosk 1 buy(1): 1
+close 1 clause 2 sum 4 bound 3
+web 1 buy(4): 4
+round 2
+site 0
+site 1
+site 2
+database
+tickets = 7
+rounds 3 calls 10
+"""
+
 PUTTING = """workload 1
 sites 2
 object x in 0..9 = 4
@@ -339,6 +369,52 @@ MOVED_EARLIER = [
     ("round 1\nsite 0\nsite 1\nsite 2\nkiosk 2 buy(2): 2\n", "round 1\nsite 0\nsite 1\nsite 2\n"),
     ("kiosk 1 buy(1): 1\n", "kiosk 1 buy(1): 1\nkiosk 2 buy(2): 2\n"),
 ]
+NODES_EDITS = [
+    (
+        "nodes, nothing changed",
+        [],
+        "legal: 3 rounds, 8 local and 2 closing calls; all merges run of 3 rounds; the treaties of 3 rounds",
+    ),
+    (
+        "nodes, calls of one client in another order",
+        [("hall 2 buy(4): 4\nhall 1 buy(2): 2\nhall 1 buy(2): 2\n", "hall 1 buy(2): 2\nhall 1 buy(2): 2\nhall 2 buy(4): 4\n")],
+        "legal: 3 rounds",
+    ),
+    ("a call that its client doesn't list", [("kiosk 1 buy(1): 1", "kiosk 1 buy(3): 3")], "round 1, site 2: kiosk 1 buy(3): kiosk doesn't list buy(3)"),
+    (
+        "a call at the place of another",
+        [("web 3 buy(3): 3", "web 2 buy(3): 3")],
+        "round 0, site 1: web 2 buy(3): the place of buy(3) in the list of web is 3",
+    ),
+    (
+        "a call at a later place of its own",
+        [("web 1 buy(4): 4", "web 2 buy(4): 4")],
+        "round 1, site 1: web 2 buy(4): the place of buy(4) in the list of web is 1",
+    ),
+    ("a call past its client's list", [("hall 3 buy(1)", "hall 4 buy(1)")], "round 1, site 0: hall 4 buy(1): the place of buy(1) in the list of hall is 3"),
+    (
+        "a listed call at another site",
+        [("site 1\nweb 3", "site 1\nkiosk 1 buy(1): 1\nweb 3"), ("calls 10", "calls 11")],
+        "round 0, site 1: kiosk 1 buy(1): kiosk stands at site 2",
+    ),
+    ("a listed call of no client", [("kiosk 1 buy(1): 1", "booth 1 buy(1): 1")], "there is no client booth"),
+    (
+        "a call that was made again, and its answer lost",
+        [("tickets = 7", "tickets = 5")],
+        "the database: tickets = 5, and the calls leave 7",
+    ),
+    (
+        "a call that closes nothing, since one before it lacks",
+        [("hall 2 buy(4): 4\n", ""), ("tickets = 7", "tickets = 11"), ("calls 10", "calls 9")],
+        "round 0, site 0: hall 1 buy(2) closes the round and breaks nothing of the treaty",
+    ),
+    (
+        "a call made again behind what the treaty allows",
+        [("hall 2 buy(4): 4\n", "hall 2 buy(4): 4\nhall 2 buy(4): 4\n"), ("tickets = 7", "tickets = 3"), ("calls 10", "calls 11")],
+        "round 0, site 0: hall 1 buy(2) breaks the treaty, clause 0 with sum 10 and bound 9, and closes no round",
+    ),
+    ("the print of a call made again", [("kiosk 2 buy(2): 2\nkiosk 2 buy(2): 2\n", "kiosk 2 buy(2): 2\nkiosk 2 buy(2): 0\n")], "prints 2 in a merge, and not 0"),
+]
 ORDERS_EDITS = [
     (
         "orders, nothing changed",
@@ -414,6 +490,10 @@ def cases():
         ("nothing changed, by the schedule", "steps", TICKETS, TICKETS_REPORT, "legal: 4 rounds"),
         ("a call moved to an earlier round", "run", TICKETS, moved, "legal: 4 rounds"),
         ("a call moved to an earlier round, by the schedule", "steps", TICKETS, moved, "round 0: the schedule has kiosk last, and not web 3 buy(3)"),
+        *[(name, "nodes", TICKETS, changed(NODES_REPORT, edits), reason) for name, edits, reason in NODES_EDITS],
+        ("calls of nodes, under run", "run", TICKETS, NODES_REPORT, "round 0, site 0: hall 2 buy(4): call 1 of hall is next"),
+        ("calls of nodes, under wire", "wire", TICKETS, NODES_REPORT, "round 0, site 0: hall 2 buy(4): call 1 of hall is next"),
+        ("calls of run, as of nodes", "nodes", TICKETS, TICKETS_REPORT, "round 0, site 1: web 2 buy(4): the place of buy(4) in the list of web is 1"),
         ("counting, nothing changed", "steps", COUNTING, COUNTING_REPORT, "legal: 3 rounds"),
         ("a frozen delta's sum", "steps", COUNTING, COUNTING_REPORT.replace("clause 3 sum -1", "clause 3 sum 1"), "breaks clause 3 sum -1 bound 0"),
         ("merges that leave two databases", "run", PUTTING, PUTTING_TOGETHER, "round 0: one merge leaves x = "),
@@ -443,3 +523,9 @@ def changed_reports():
     rights = [(TICKETS, TICKETS_REPORT), (ORDERS, ORDERS_REPORT), (COUNTING, COUNTING_REPORT)]
     rights += [(WEIGHED, WEIGHED_REPORT), (ENDING, ENDING_REPORT)]
     return [(text, "".join(lines)) for text, told in rights for lines in small_changes(told)]
+
+
+def changed_of_nodes():
+    """The text of tickets with changed reports of nodes, none of which is legal: two calls of one segment that change places may be."""
+    right = sorted(NODES_REPORT.splitlines(keepends=True))
+    return [(TICKETS, "".join(lines)) for lines in small_changes(NODES_REPORT) if sorted(lines) != right]
