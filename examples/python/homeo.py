@@ -13,6 +13,8 @@ import sys
 
 OWN = str(pathlib.Path(__file__).resolve().parents[2] / "homeo")
 PROGRAM = os.environ.get("HOMEO") or OWN
+# The last line of an answer.
+LAST_LINE = r"(?:rounds \d+ calls \d+|refused E\d+ at \d+)\n"
 # What docs/LANGUAGE.md says of each code.
 SENTENCES = {
     "E1": "a byte that no text may have",
@@ -102,13 +104,14 @@ def read(text):
     """The report of a text, or `NoReport`."""
     found, site, closed, line = Report(), 0, False, ""
     for number, line in enumerate(text.splitlines(), 1):
-        if it := re.fullmatch(r"round (\d+)", line):
+        # (first of all, since a client may be called as another line begins)
+        if it := re.fullmatch(r"(\w+) (\d+) (\w+)\((.*)\):(.*)", line):
+            arguments, prints = ([int(part) for part in re.findall(r"-?\d+", words)] for words in (it[4], it[5]))
+            found.calls.append(Call(it[1], int(it[2]), it[3], arguments, prints, found.rounds - 1, site, closed))
+        elif it := re.fullmatch(r"round (\d+)", line):
             found.rounds += 1
         elif it := re.fullmatch(r"(site|close) (\d+)(?: .*)?", line):
             site, closed = int(it[2]), it[1] == "close"
-        elif it := re.fullmatch(r"(\w+) (\d+) (\w+)\((.*)\):(.*)", line):
-            arguments, prints = ([int(part) for part in re.findall(r"-?\d+", words)] for words in (it[4], it[5]))
-            found.calls.append(Call(it[1], int(it[2]), it[3], arguments, prints, found.rounds - 1, site, closed))
         elif it := re.fullmatch(r"(\w+)\.(\d+)\.(\w+) = (-?\d+)", line):
             slots = found.relations.setdefault(it[1], [])
             slots.extend({} for _ in range(int(it[2]) + 1 - len(slots)))
@@ -118,7 +121,7 @@ def read(text):
         elif line != "database" and not line.startswith("rounds "):
             raise NoReport(f"line {number} stands in no report: {line[:80]}")
     if line != f"rounds {found.rounds} calls {len(found.calls)}" or not text.endswith("\n"):
-        raise NoReport(f"the report is cut off behind {line[-80:]!r}")
+        raise NoReport(f"the report is cut off, or has not the calls that it counts: its last line is {line[-80:]!r}")
     return found
 
 
@@ -265,6 +268,8 @@ class Store:
     def rows(self):
         """Each relation with the slots that are kept of it."""
         found = []
+        if unknown := [*(self.values.keys() - self.objects), *(self.slots.keys() - self.relations)]:
+            raise Unfit(f"{unknown[0]} is kept, and not declared")
         for at, (name, (size, fields)) in enumerate(self.relations.items()):
             bounds = {"used": (0, 1), **fields}
             slots = self.slots.get(name) or [start_of(bounds)] * size
@@ -317,7 +322,7 @@ class Store:
             return self.keep(found)
         head, first = self.begin()
         batches = [*first, batch_of(self.clients, calls)]
-        answers = re.findall(r"(?:(?!rounds |refused ).*\n)*(?:rounds|refused) .*\n", output_of(f"{head}end\n{''.join(batches)}", "serve", timeout))
+        answers = re.findall(rf"(?:(?!{LAST_LINE}).*\n)*{LAST_LINE}", output_of(f"{head}end\n{''.join(batches)}", "serve", timeout))
         if len(answers) != len(batches):
             raise NoReport(f"{len(answers)} of {len(batches)} batches were answered")
         return self.keep([answered(head + it, answer) for it, answer in zip(batches, answers)][-1])

@@ -98,7 +98,7 @@ class Session:
             self.program.stdin.write(sent)
             self.program.stdin.flush()
         lines = [b""]
-        while not re.fullmatch(rb"(rounds|refused) .*\n", lines[-1]):
+        while not re.fullmatch(homeo.LAST_LINE.encode(), lines[-1]):
             lines.append(self.program.stdout.readline())
             if not lines[-1].endswith(b"\n"):
                 return None

@@ -36,7 +36,8 @@ transaction count_up() { write(x = read(x) + 1) }"""
 SELL = "transaction sell(n in 1..9) { write(stock = read(stock) - n); if read(stock) < 3 then { print(0); abort } else print(n) }"
 
 
-# A name that what puts slots back would take, if it didn't look.
+# Names that begin other lines of an answer, and those that what puts slots back would take, if it didn't look.
+LIKE_LINES = ["rounds", "refused", "site", "round", "close", "database"]
 TAKEN = ["restored", "restore0_done", "restore0_0_fill", "restore1_0_put", "restore0_", "Restore"]
 # A program that passes on what the real one reads and writes, and does something else where it has written so many bytes.
 STANDS_BETWEEN = """import os, subprocess, sys, time
@@ -66,7 +67,7 @@ class Anything:
 
     def __init__(self, seed):
         self.choose, self.calls_of = random.Random(seed), []
-        names = self.choose.sample([*TAKEN, "x", "stock", "R", "S", "T", "one", "two", "three"], 9)
+        names = self.choose.sample([*TAKEN, "x", "stock", "R", "S", "T", "one"], 6) + self.choose.sample([*LIKE_LINES, "restore1_0_client"], 3)
         sites, objects, transactions = self.choose.randint(1, 4), {it: (-2, 9) for it in names[:2]}, []
         relations = {it: (self.choose.choice([1, 2, 3, 6, 20]), self.fields()) for it in names[2 : 2 + self.choose.randint(1, 3)]}
         for at, (name, (size, fields)) in enumerate(relations.items()):
@@ -326,7 +327,7 @@ class Tests(unittest.TestCase):
             self.assertEqual((opened.batch, opened.sessions), (38, 1))
 
     def test_what_does_not_fit(self):
-        wrong = [{"values": {}}, {"slots": {"orders": [{}]}}, {"slots": {"orders": [{}] * 8}}, {"transactions": f"{SHOP}\nend"}]
+        wrong = [{"values": {}}, {"slots": {"orders": [{}]}}, {"slots": {"orders": [{}] * 8}}, {"transactions": f"{SHOP}\nend"}, {"values": {"stock": 1, "x": 1}}]
         wrong.append({"slots": {"orders": [{"used": 1, "who": 1000, "amount": 0}] * 8}})
         for it in wrong:
             kept = shop()

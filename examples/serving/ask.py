@@ -8,6 +8,7 @@ import subprocess
 import sys
 
 PROGRAM = os.environ.get("HOMEO") or str(pathlib.Path(__file__).resolve().parents[2] / "homeo")
+LAST_LINE = re.compile(r"(rounds \d+ calls \d+|refused E\d+ at \d+)\n")
 END = re.compile(r"^[ \t\r]*end[ \t\r]*\n", re.M)
 
 
@@ -23,7 +24,7 @@ def answer(session, frame):
     session.stdin.flush()
     for line in session.stdout:
         yield line
-        if line.startswith(("rounds ", "refused ")):
+        if LAST_LINE.fullmatch(line):
             return
     sys.exit(session.wait() or "ask.py: the answer is cut off")
 
