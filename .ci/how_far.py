@@ -50,9 +50,11 @@ class Line:
         self.parts = {**{name: it for name, it in self.parts.items() if name}, part: doing}
 
     def text(self):
-        of = f" of some {clock(self.usual())}" if self.took else ""
-        doing = "; ".join(f"{part}: {it}" if part else it for part, it in self.parts.items())
-        return f"homeo: {clock(time.monotonic() - self.began)}{of}: {doing}"
+        gone, of = time.monotonic() - self.began, ""
+        if self.took:
+            of = f" of some {clock(self.usual())}" if gone < self.usual() else f", which is longer than the {clock(self.usual())} that it takes as a rule"
+        doing = "; ".join(f"{part}: {it}" if len(self.parts) > 1 else it for part, it in self.parts.items())
+        return f"homeo: {clock(gone)}{of}: {doing}"
 
     def tick(self):
         while not self.is_over.wait(1):
