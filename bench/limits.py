@@ -1,8 +1,9 @@
 #!/usr/bin/env python3
 """bench/limits.py
 
-Measures with ./homeo how large texts may be before they are refused with E11, and writes the figures into docs/LANGUAGE.md, between
-the marker lines of `slots`, and into docs/COOKBOOK.md and examples/README.md, between those of `growth`. It takes some seconds.
+Measures with the program ($HOMEO, or the built one) how large texts may be before they are refused with E11, and writes the figures into
+docs/LANGUAGE.md, between the marker lines of `slots`, and into docs/COOKBOOK.md and examples/README.md, between those of `growth`. It
+takes some seconds.
 
 slots    a command over the slots of a relation on 2 sites: how often it may stand in one call, and in how many different calls
 growth   each text of the cookbook and of examples/, with 64 slots in each relation: how many different calls of a transaction it may have
@@ -10,6 +11,7 @@ growth   each text of the cookbook and of examples/, with 64 slots in each relat
 A text is measured without being run: behind its calls stands one more, which is refused whatever stands before it (its product weighs
 too much, E10). Where the refusal is that call's, the calls before it are accepted.
 """
+import functools
 import itertools
 import pathlib
 import re
@@ -19,6 +21,7 @@ import sys
 sys.dont_write_bytecode = True
 sys.path.insert(0, str(pathlib.Path(__file__).resolve().parent))
 import marked
+import program
 
 ROOT = pathlib.Path(__file__).resolve().parent.parent
 HEAVY = "transaction heavy_last() { print(999999999999 * 999999999999) }\n"
@@ -41,8 +44,11 @@ COMMANDS = [
 ]
 
 
+chosen = functools.cache(program.chosen)
+
+
 def complaint(text):
-    run = subprocess.run([str(ROOT / "homeo"), "treaty"], input=text.encode(), stdout=subprocess.DEVNULL, stderr=subprocess.PIPE)
+    run = subprocess.run([chosen(), "treaty"], input=text.encode(), stdout=subprocess.DEVNULL, stderr=subprocess.PIPE)
     return run.stderr.decode()
 
 

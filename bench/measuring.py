@@ -11,7 +11,8 @@ import pathlib
 import subprocess
 import sys
 
-ROOT = pathlib.Path(__file__).resolve().parent.parent
+import program
+
 Measured = collections.namedtuple("Measured", "status seconds processor megabytes said")
 # Bytes of address space, the seconds that a run may take, and those of one that is not repeated.
 MOST_MEMORY, TIMEOUT, LONG = 6 * 2**30, 120, 5
@@ -65,9 +66,5 @@ def least(command, given, repeats, timeout=TIMEOUT):
 
 
 def program_of(path):
-    """The program at the path, or where that is None the built one, which ./homeo builds if need be."""
-    if path is not None:
-        return pathlib.Path(path).resolve()
-    if subprocess.run([str(ROOT / "homeo"), "steps"], input=b"workload 1 sites 1 end", stdout=subprocess.DEVNULL).returncode:
-        sys.exit("there is no program to be measured")
-    return ROOT / ".build" / "homeo"
+    """The program at the path, or where that is None that of $HOMEO, or the built one, which ./homeo builds if need be."""
+    return pathlib.Path(path or program.chosen()).resolve()
