@@ -20,8 +20,8 @@ MOST_TESTS, MOST_NAMED = 400_000, 3
 class Cause:
     """Why a call closed its round: the factors of its site's numbers in a clause, with the slack, or a number that is frozen there.
 
-    `askers` are the ground calls that ask for it, each with how it uses a frozen number, nothing for a clause; `of` is what the first
-    of them tests there, for a clause.
+    `askers` are the ground calls that ask for it, each with how it uses a frozen number, nothing for a clause; `values` has what these
+    numbers are at the base; `together` what all sites came to by the end of the round, and `of` what the first call tests, for a clause.
     """
 
     number: int
@@ -29,6 +29,8 @@ class Cause:
     factors: dict
     slack: int | None
     askers: list
+    values: dict
+    together: int = 0
     of: object = None
 
     def is_freeze(self):
@@ -54,12 +56,12 @@ class Cause:
         return f"round {self.number}: {self.closing.entry} closed: {self.moved()}; {self.asked_for()}"
 
 
-def sum_of(factors):
+def sum_of(factors, said=str):
     """The sum of numbers, those that are added before those that are subtracted; all with a plus, where all are subtracted."""
     sign = 1 if max(factors.values()) > 0 else -1
-    terms = sorted(((factor * sign, name) for name, factor in factors.items()), key=lambda it: it[0] < 0)
-    said = [f"{'-' if factor < 0 else '+'} {'' if abs(factor) == 1 else f'{abs(factor)}*'}{name}" for factor, name in terms]
-    return " ".join(said).removeprefix("+ ")
+    terms = sorted(((factor * sign, said(name)) for name, factor in factors.items()), key=lambda it: it[0] < 0)
+    told = [f"{'-' if factor < 0 else '+'} {'' if abs(factor) == 1 else f'{abs(factor)}*'}{name}" for factor, name in terms]
+    return " ".join(told).removeprefix("+ ")
 
 
 def named(askers):
@@ -137,7 +139,10 @@ class Causes:
         if closing.clause - clauses >= len(frozen) or frozen[closing.clause - clauses][1] != closing.site:
             raise Illegal(f"round {number}: the treaty has no freeze {closing.clause} at site {closing.site}")
         delta = frozen[closing.clause - clauses]
-        return Cause(number, closing, {delta[0]: 1}, None, self.asking.freezers_of(delta))
+        return Cause(number, closing, {delta[0]: 1}, None, self.asking.freezers_of(delta), self.values([delta[0]]))
+
+    def values(self, names):
+        return {name: self.asking.base[name] for name in names}
 
     def clause(self, number, closing, key):
         factors = dict(sorted(key[0], key=lambda it: self.asking.order[it[0]]))
@@ -145,8 +150,9 @@ class Causes:
         if closing.bound != bound or closing.sum <= bound:
             raise Illegal(f"round {number}: clause {closing.clause} has bound {bound} at site {closing.site}")
         askers = [(it, []) for it in self.asking.askers_of(key)]
-        first = self.asking.walks[self.asking.first[key]]
-        return Cause(number, closing, factors, slack, askers, first.asked[key])
+        values, after = self.values(factors), self.changes[number]
+        together = sum(factor * (after.get(name, values[name]) - values[name]) for name, factor in factors.items())
+        return Cause(number, closing, factors, slack, askers, values, together, self.asking.walks[self.asking.first[key]].asked[key])
 
     def bound(self, key, site):
         form = [(factor, name, at) for name, factor in key[0] for at in range(self.workload.sites)] if self.workload.weights else []

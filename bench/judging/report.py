@@ -28,6 +28,9 @@ class Entry:
     def __str__(self):
         return f"{self.client} {self.number} {self.call}"
 
+    def transaction(self):
+        return self.call.partition("(")[0]
+
 
 @dataclasses.dataclass
 class Closing:
@@ -38,6 +41,9 @@ class Closing:
     sum: int
     bound: int
     entry: Entry
+
+    def transaction(self):
+        return self.entry.transaction()
 
 
 @dataclasses.dataclass

@@ -1,0 +1,71 @@
+"""Which rule of docs/LOCALITY.md is about a cause: each is a heading of that page."""
+import judging.programs as p
+from judging.asking import INSERTS, PRINTS, SETS, USES, VISITS, WITHIN
+
+PRINT = "A print of a shared number freezes it"
+LAST = "The last item always closes"
+WEIGHTS = "Weights from a forecast"
+START = "A number that starts at its bound has no slack"
+CLAIM = "An insert and a claim close"
+ONCE = "A call made once binds for the whole text"
+RANGE = "A range for each site"
+ALL = (PRINT, LAST, WEIGHTS, START, CLAIM, ONCE, RANGE)
+# Calls are rare of which at most one stands among so many.
+RARE = 20
+
+
+def link(rule):
+    """Where a rule stands."""
+    return f"docs/LOCALITY.md#{rule.lower().replace(' ', '-')}"
+
+
+def rules_of(cause, workload, made):
+    """The rules about a cause, the first one first; `made` counts the calls of a report by their transactions."""
+    if is_rare(cause, made):
+        return [ONCE]
+    if cause.is_freeze():
+        return rules_of_freeze(cause)
+    if any(name.endswith(".used") for name in cause.factors) or is_claim(cause):
+        return [CLAIM]
+    if starts_at_bound(cause, workload):
+        return [START]
+    is_scarce = cause.together > cause.slack or cause.slack < workload.sites
+    return [LAST if is_scarce else WEIGHTS]
+
+
+def is_rare(cause, made):
+    """Whether few calls are of the transactions that ask for it, and the closing one isn't."""
+    asking = {asker.call.transaction.name for asker, _ in cause.askers}
+    return cause.closing.transaction() not in asking and RARE * sum(made[it] for it in asking) <= sum(made.values())
+
+
+def rules_of_freeze(cause):
+    uses = {it for _, all_uses in cause.askers for it in all_uses}
+    is_counter = PRINTS in uses and cause.closing.transaction() in {it.call.transaction.name for it, _ in cause.askers}
+    return [PRINT, *([RANGE] if is_counter else [])] if uses & {PRINTS, SETS, USES} else []
+
+
+def is_claim(cause):
+    """Whether it is for a test of equality that the closing call makes itself."""
+    asks = any(str(it.call) == cause.closing.entry.call for it, _ in cause.askers)
+    return asks and (has_equal(cause.of) or isinstance(cause.of, tuple) and cause.of[0] in (INSERTS, VISITS))
+
+
+def has_equal(found):
+    match found:
+        case p.Equal():
+            return True
+        case p.Not(part):
+            return has_equal(part)
+        case p.All(tests):
+            return any(map(has_equal, tests))
+    return False
+
+
+def starts_at_bound(cause, workload):
+    """Whether a write does nothing since its value would be past the bound at which the number stands."""
+    if not isinstance(cause.of, tuple) or cause.of[0] != WITHIN or len(cause.factors) > 1:
+        return False
+    ((name, factor),) = cause.factors.items()
+    bounds, value = workload.bounds(name), cause.values[name]
+    return bounds.high - value < value - bounds.low if factor < 0 else value - bounds.low < bounds.high - value
