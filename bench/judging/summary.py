@@ -76,7 +76,7 @@ def words(cause):
 
 @dataclasses.dataclass
 class Part:
-    """A report with its causes, which is a batch of a session where it has a number."""
+    """A report with its text and its causes, where they are known, which is a batch of a session where it has a number."""
 
     workload: object
     history: object
@@ -97,8 +97,8 @@ class Summary:
         self.closings = [it.closing for it in self.rounds if it.closing]
         self.calls = sum(part.history.calls() for part in parts)
         self.made = collections.Counter(entry.transaction() for it in self.rounds for _, entry in it.entries())
-        self.found = [(cause, part) for part in parts for cause in part.causes.found]
-        self.left_out = sum(part.causes.left_out for part in parts)
+        self.found = [(cause, part) for part in parts if part.causes for cause in part.causes.found]
+        self.left_out = sum(part.causes.left_out for part in parts if part.causes)
 
     def local(self):
         return self.calls - len(self.closings)
