@@ -10,7 +10,7 @@ CLAIM = "An insert and a claim close"
 ONCE = "A call made once binds for the whole text"
 RANGE = "A range for each site"
 ALL = (PRINT, LAST, WEIGHTS, START, CLAIM, ONCE, RANGE)
-# Calls are rare of which at most one stands among so many.
+# Calls are rare of which there is one, or at most one among so many.
 RARE = 20
 
 
@@ -22,7 +22,7 @@ def link(rule):
 def rules_of(cause, workload, made):
     """The rules about a cause, the first one first; `made` counts the calls of a report by their transactions."""
     if is_rare(cause, made):
-        return [ONCE]
+        return [ONCE, *(rules_of_freeze(cause) if cause.is_freeze() else [])]
     if cause.is_freeze():
         return rules_of_freeze(cause)
     if any(name.endswith(".used") for name in cause.factors) or is_claim(cause):
@@ -36,7 +36,7 @@ def rules_of(cause, workload, made):
 def is_rare(cause, made):
     """Whether few calls are of the transactions that ask for it, and the closing one isn't."""
     asking = {asker.call.transaction.name for asker, _ in cause.askers}
-    return cause.closing.transaction() not in asking and RARE * sum(made[it] for it in asking) <= sum(made.values())
+    return cause.closing.transaction() not in asking and sum(made[it] for it in asking) <= max(1, sum(made.values()) / RARE)
 
 
 def rules_of_freeze(cause):
