@@ -4,7 +4,7 @@ import signal
 import sys
 
 import progress
-from judging import causes, report, sessions, summary, workload
+from judging import ahead, causes, report, sessions, summary, workload
 
 
 def bytes_of(name):
@@ -43,3 +43,9 @@ def explained(name, names, shows_all):
     except report.Illegal as fault:
         print(f"why: {names[-1]} is no report of {name}: {fault}", file=sys.stderr)
     return 1
+
+
+def explain_treaty(text, shows_all):
+    """What may happen before the first round of an accepted text closes."""
+    signal.signal(signal.SIGPIPE, signal.SIG_DFL)
+    print("\n".join(ahead.Ahead(workload.read(text.decode("ascii"))).lines(shows_all)))

@@ -33,7 +33,7 @@ def passed(condition, wanted):
 class Walk(derivation.Walk):
     """A call walked for all sites at a base.
 
-    `asked` has its sums that may change, as pairs of a form and a rest, each with what it tests; `guards` those that keep the walk as it is besides;
+    `asked` has its sums that may change, as pairs of a form and a rest, each with what it tests, and whether that holds; `guards` those that keep the walk as it is besides;
     `pinned` the numbers that are taken for what they are at the base; `frozen_for` how it uses each number that the other sites may not
     move, and of those that nobody may move that it multiplies them.
     """
@@ -58,7 +58,7 @@ class Walk(derivation.Walk):
                 self.pin(atom)
                 self.note(atom.mixed, lambda name: MULTIPLIES)
             if atom.factors:
-                self.asked.setdefault(self.key(atom), self.of)
+                self.asked.setdefault(self.key(atom), (self.of, found))
         for atom in passed(condition, found):
             self.pin(atom)
             self.guards.add(self.key(atom))
@@ -216,6 +216,14 @@ class Asking:
     def clauses(self):
         """How many clauses the treaty has."""
         return len(self.first)
+
+    def numbered(self):
+        """The sums of the clauses, in their order."""
+        return [key for number, made in enumerate(self.walks) for key in made.asked if self.first[key] == number]
+
+    def tested(self, key):
+        """What the first call that asks for a sum tests, and whether it holds."""
+        return self.walks[self.first[key]].asked[key]
 
     def clause(self, wanted):
         """The sum of a clause: its form and its rest."""

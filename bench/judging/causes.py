@@ -21,7 +21,8 @@ class Cause:
     """Why a call closed its round: the factors of its site's numbers in a clause, with the slack, or a number that is frozen there.
 
     `askers` are the ground calls that ask for it, each with how it uses a frozen number, nothing for a clause; `values` has what these
-    numbers are at the base; `together` what all sites came to by the end of the round, and `of` what the first call tests, for a clause.
+    numbers are at the base; `together` what all sites came to by the end of the round, and for a clause `of` what the first call tests, and
+    `holds` whether that was so.
     """
 
     number: int
@@ -32,6 +33,7 @@ class Cause:
     values: dict
     together: int = 0
     of: object = None
+    holds: bool = True
 
     def is_freeze(self):
         return self.slack is None
@@ -152,7 +154,7 @@ class Causes:
         askers = [(it, []) for it in self.asking.askers_of(key)]
         values, after = self.values(factors), self.changes[number]
         together = sum(factor * (after.get(name, values[name]) - values[name]) for name, factor in factors.items())
-        return Cause(number, closing, factors, slack, askers, values, together, self.asking.walks[self.asking.first[key]].asked[key])
+        return Cause(number, closing, factors, slack, askers, values, together, *self.asking.tested(key))
 
     def bound(self, key, site):
         form = [(factor, name, at) for name, factor in key[0] for at in range(self.workload.sites)] if self.workload.weights else []

@@ -1,6 +1,6 @@
 """Which rule of docs/LOCALITY.md is about a cause: each is a heading of that page."""
 import judging.programs as p
-from judging.asking import INSERTS, PRINTS, SETS, USES, VISITS, WITHIN
+from judging.asking import INSERTS, PRINTS, SETS, USES, VISITS
 
 PRINT = "A print of a shared number freezes it"
 LAST = "The last item always closes"
@@ -21,16 +21,16 @@ def link(rule):
 
 def rules_of(cause, workload, made):
     """The rules about a cause, the first one first; `made` counts the calls of a report by their transactions."""
-    if is_rare(cause, made):
-        return [ONCE, *(rules_of_freeze(cause) if cause.is_freeze() else [])]
-    if cause.is_freeze():
-        return rules_of_freeze(cause)
+    found = rules_of_freeze(cause) if cause.is_freeze() else [rule_of_clause(cause, workload)]
+    return [ONCE, *found[:1]] if is_rare(cause, made) else found
+
+
+def rule_of_clause(cause, workload):
     if any(name.endswith(".used") for name in cause.factors) or is_claim(cause):
-        return [CLAIM]
-    if starts_at_bound(cause, workload):
-        return [START]
+        return CLAIM
     is_scarce = cause.together > cause.slack or cause.slack < workload.sites
-    return [LAST if is_scarce else WEIGHTS]
+    # (a test that fails is kept failing, as where a number stands at its bound)
+    return WEIGHTS if not is_scarce else LAST if cause.holds else START
 
 
 def is_rare(cause, made):
@@ -60,12 +60,3 @@ def has_equal(found):
         case p.All(tests):
             return any(map(has_equal, tests))
     return False
-
-
-def starts_at_bound(cause, workload):
-    """Whether a write does nothing since its value would be past the bound at which the number stands."""
-    if not isinstance(cause.of, tuple) or cause.of[0] != WITHIN or len(cause.factors) > 1:
-        return False
-    ((name, factor),) = cause.factors.items()
-    bounds, value = workload.bounds(name), cause.values[name]
-    return bounds.high - value < value - bounds.low if factor < 0 else value - bounds.low < bounds.high - value
