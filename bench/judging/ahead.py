@@ -170,8 +170,8 @@ class Ahead:
         little, none = (sum(it.room < most for it in self.parts) for most in (LITTLE, 1))
         said = f"{counted(self.asking.clauses(), 'clause')} and {counted(len(self.asking.freezes()), 'freeze')}"
         if not little:
-            return f"{said}: whatever a call moves has room for {LITTLE} calls or more at each site"
-        return f"{said}: {counted(little, 'sum')} or frozen numbers that calls move have room for fewer than {LITTLE} calls at a site, {none:,} of them for none"
+            return f"{said}; whatever calls move has room for {LITTLE} calls or more at each site"
+        return f"{said}; of what calls move {little:,} {'has' if little == 1 else 'have'} room for fewer than {LITTLE} calls at a site, {none:,} of them for none"
 
     def lines_of(self, kind):
         first, more = kind[0], len(kind) - 1
