@@ -41,22 +41,41 @@ def is_rare(cause, made):
 
 def rules_of_freeze(cause):
     uses = {it for _, all_uses in cause.askers for it in all_uses}
-    is_counter = PRINTS in uses and cause.closing.transaction() in {it.call.transaction.name for it, _ in cause.askers}
-    return [PRINT, *([RANGE] if is_counter else [])] if uses & {PRINTS, SETS, USES} else []
+    is_own = cause.closing.transaction() in {it.call.transaction.name for it, _ in cause.askers}
+    (name,) = cause.factors
+    if is_own and "." in name and uses == {SETS}:
+        return [CLAIM]
+    return [PRINT, *([RANGE] if is_own and PRINTS in uses else [])] if uses & {PRINTS, SETS, USES} else []
 
 
 def is_claim(cause):
-    """Whether it is for a test of equality that the closing call makes itself."""
+    """Whether it is for a test of equality that the closing call makes itself, of what is to move."""
     asks = any(str(it.call) == cause.closing.entry.call for it, _ in cause.askers)
-    return asks and (has_equal(cause.of) or isinstance(cause.of, tuple) and cause.of[0] in (INSERTS, VISITS))
+    if isinstance(cause.of, tuple):
+        return asks and cause.of[0] in (INSERTS, VISITS)
+    return asks and any(tests_one_of(it, cause.factors) for it in equalities(cause.of))
 
 
-def has_equal(found):
+def equalities(found):
     match found:
         case p.Equal():
-            return True
+            yield found
         case p.Not(part):
-            return has_equal(part)
+            yield from equalities(part)
         case p.All(tests):
-            return any(map(has_equal, tests))
+            for it in tests:
+                yield from equalities(it)
+
+
+def tests_one_of(found, names):
+    """Whether a test names one of these numbers, or a temporary, which may stand for one."""
+    for part in (found.left, found.right):
+        match part:
+            case p.Name(_, is_parameter) if not is_parameter:
+                return True
+            case p.Read(name) if name in names:
+                return True
+            case p.SlotField(relation, _, field) | p.RowField(relation, _, field):
+                if any(it.startswith(f"{relation.name}.") and it.endswith(f".{field}") for it in names):
+                    return True
     return False
