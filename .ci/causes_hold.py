@@ -3,7 +3,7 @@ others do."""
 import dataclasses
 import subprocess
 
-from judging import causes, legality, plain_text, report, treaty, workload
+from judging import causes, derivation, legality, plain_text, report, treaty, workload
 from judging.merges import Merges
 
 # Of so many of a cause's calls each is asked for by itself.
@@ -43,7 +43,7 @@ def fault_of(program, made, text, found, base, cause):
         return f"its site moves {cause.factors} by {moved}, and the report says {cause.closing.sum} of {cause.closing.bound}"
     askers = [(it.call, it.site) for it, _ in cause.askers]
     named = {(str(call), site) for call, site in askers}
-    others = [(call, site) for call, site in causes.derivation.ground_calls(made) if (str(call), site) not in named]
+    others = [(call, site) for call, site in derivation.ground_calls(made) if (str(call), site) not in named]
     for calls, is_wanted in [*(([it], True) for it in askers[:MOST_ASKERS]), (others, False)]:
         told = treaty_of(program, made, text, base, calls)
         if told is not None and asks(told, cause, bool(made.weights)) != is_wanted:

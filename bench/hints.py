@@ -107,6 +107,30 @@ def comma_between_calls(at):
     return None
 
 
+def comma_between_declarations(at):
+    if at.token == "," and not at.brackets and re.search(r" \.\. (- )?\d+ = (- )?\d+$", " ".join(at.before[-8:])):
+        return "each object has a declaration of its own: object x in 0..9 = 5"
+    return None
+
+
+def word_site(at):
+    if at.token in {"site", "sites"} and ends_with(at.before, "client N at"):
+        return "the number of the site stands behind at: at 0"
+    return None
+
+
+def fraction(at):
+    if at.token == "." and at.last.isdigit() and at.next.isdigit() and not re.search(r"\bin (- )?\d+$", " ".join(at.before[-3:])):
+        return "numbers are whole: count in tenths or in cents"
+    return None
+
+
+def dash_in_name(at):
+    if at.token == "-" and NAME.fullmatch(at.last) and at.before[-2:-1] and at.before[-2] in KINDS and NAME.fullmatch(at.next):
+        return f"a name has letters, digits and _: {at.last}_{at.next}"
+    return None
+
+
 # ---- commands
 def no_command(at):
     if not at.is_inmost_brace or at.is_in_client:
@@ -177,7 +201,7 @@ def whether_used(at):
 
 
 SLIPS = [
-    declaration_out_of_order, start_before_bounds, no_start, no_slots, start_of_relation, field_without_bounds, comma_between_calls,
+    word_site, fraction, dash_in_name, comma_between_declarations, declaration_out_of_order, start_before_bounds, no_start, no_slots, start_of_relation, field_without_bounds, comma_between_calls,
     whether_used, no_command, no_function, changed_in_place, write_without_equals, field_equals, insert_into,
     phrase_over_rows,
 ]
@@ -200,27 +224,18 @@ def expected(at):
     return "expected: .." if re.search(r"\bin (- )?\d+$", " ".join(at.before[-3:])) else None
 
 
-# ---- names and limits
-def line_of(text, offset):
-    return text.count("\n", 0, offset) + 1
+def of_end(at):
+    """What a text lacks that ends too early, or what is open before the place."""
+    if at.opener() is not None and at.ends_operand(at.last) and (at.token in {"}", ";", "{", "then", "else", "into", "set", ""}):
+        return "a ) is missing before it"
+    if at.token:
+        return None
+    if not at.brackets:
+        return "the last word of a text is end"
+    return f"the text ends, and a {at.before[at.brackets[-1]]} is open"
 
 
-def other_declaration(at, text, offset):
-    """Which declaration has the name at the place already, or which use in the same one."""
-    tokens = [(it.group(), it.start()) for it in TOKEN.finditer(text)]
-    named = [(word, *following) for (word, _), following in zip(tokens, tokens[1:]) if word in KINDS]
-    is_field = at.opener() == "]" or bool(at.brackets) and at.before[at.brackets[-1] - 2 : at.brackets[-1] - 1] == ["insert"]
-    if is_field:
-        begin = tokens[at.brackets[-1]][1]
-    else:
-        for kind, name, place in named:
-            if name == at.token and place != offset:
-                return f"{name} is the name of {'an' if kind == 'object' else 'a'} {kind} in line {line_of(text, place)}"
-        begin = max((place for _, _, place in named if place <= offset), default=0)
-    places = [place for token, place in tokens if token == at.token and begin <= place < offset]
-    return f"{at.token} has a meaning already, from line {line_of(text, places[0])} on" if places else None
-
-
+# ---- limits
 def limit(at):
     """Which limit is passed at the place."""
     if not at.is_in_client:

@@ -21,6 +21,8 @@ class Form:
     mixed: frozenset = frozenset()
 
     def plus(self, other, times=1):
+        if not other.may_change():
+            return Form(self.constant + times * other.constant, self.factors, self.mixed)
         factors = dict(self.factors)
         for delta, factor in other.factors.items():
             factors[delta] = factors.get(delta, 0) + times * factor
@@ -58,15 +60,20 @@ class Test:
 
     def atoms(self, wanted):
         """The forms that are at most 0 where the test is as it is at the base, which is `wanted`."""
-        below, above = self.left.plus(self.right, -1), self.right.plus(self.left, -1)
-        one = constant(1)
         if self.kind is p.Less:
-            return [below.plus(one)] if wanted else [above]
+            return [self.below(1)] if wanted else [self.above(0)]
         if self.kind is p.AtMost:
-            return [below] if wanted else [above.plus(one)]
+            return [self.below(0)] if wanted else [self.above(1)]
         if wanted:
-            return [below, above]
-        return [below.plus(one)] if below.constant < 0 else [above.plus(one)]
+            return [self.below(0), self.above(0)]
+        return [self.below(1)] if self.left.constant < self.right.constant else [self.above(1)]
+
+    def below(self, number):
+        """The left side less the right one, and a number."""
+        return self.left.plus(self.right, -1).plus(constant(number))
+
+    def above(self, number):
+        return self.right.plus(self.left, -1).plus(constant(number))
 
 
 @dataclasses.dataclass

@@ -31,6 +31,9 @@ class Entry:
     def line(self):
         return f"{self}:{''.join(f' {it}' for it in self.prints)}"
 
+    def transaction(self):
+        return self.call.partition("(")[0]
+
 
 @dataclasses.dataclass
 class Closing:
@@ -44,6 +47,9 @@ class Closing:
 
     def lines(self):
         return [f"close {self.site} clause {self.clause} sum {self.sum} bound {self.bound}", self.entry.line()]
+
+    def transaction(self):
+        return self.entry.transaction()
 
 
 @dataclasses.dataclass

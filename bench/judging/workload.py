@@ -46,6 +46,13 @@ class Workload:
                 database.update((relation.field(slot, name), bounds.nearest_to_zero()) for name, bounds in relation.fields.items())
         return database
 
+    def bounds(self, name):
+        """The bounds of a number of the database."""
+        if name in self.objects:
+            return self.objects[name].bounds
+        relation, _, field = name.split(".")
+        return p.Bounds(0, 1) if field == "used" else self.relations[relation].fields[field]
+
 
 class Words:
     """The words, numbers and symbols of a text, and where the reader stands."""
