@@ -1,9 +1,12 @@
 //! What a desk keeps beside its node.
 
+ghost use Rattle.std.specs.Prelude.{◌≡◌, ◌++◌, ◌∷◌, [], drop, length, IfOk, OnOk};
+
 use crate::answered::Answered;
 use crate::output::{Answer, Output, Request};
 use crate::places::Places;
 use homeo_history::Answer as Made;
+use homeo_live::LiveNode;
 use homeo_meaning::CallId;
 use homeo_syntax::{List, Memory};
 use std::alloc::Global;
@@ -28,22 +31,27 @@ pub(crate) enum Standing<'a> {
 }
 
 impl Callers {
-    /// No request waits, no answer was given, and so many calls were made in this round.
-    pub(crate) fn new(
+    /// These requests wait, no answer was given, and so many calls were made in this round.
+    pub(crate) fn of(
         alloc: Global,
         clients: u64,
         round: u64,
         made: u64,
-    ) -> Result<Callers, Memory> {
+        requests: Vec<Request>,
+    ) -> Result<Callers, Memory>
+        ensures { IfOk result (λ c. c.queue.items ≡ requests.items) }
+    {
         Ok(Callers {
-            queue: VecDeque::new(alloc),
+            queue: VecDeque::from(requests),
             answered: Answered::new(alloc, clients)?,
             places: Places::new(round, made),
         })
     }
 
     /// How many requests wait.
-    pub(crate) fn waiting(&self) -> usize {
+    pub(crate) fn waiting(&self) -> usize
+        ensures { result ≡ length self.now.queue.items }
+    {
         self.queue.len()
     }
 
@@ -98,13 +106,38 @@ impl Callers {
     }
 
     /// A request waits behind the others.
-    pub(crate) fn add(&mut self, request: Request) -> Result<(), Memory> {
+    pub(crate) fn add(&mut self, request: Request) -> Result<(), Memory>
+        ensures { OnOk result (self.new.queue.items ≡ self.old.queue.items ++ request ∷ []) }
+    {
         Ok(self.queue.push_back(request)?)
     }
 
-    /// Keeps the last answer of a client.
-    pub(crate) fn keep(&mut self, answer: Answer) {
-        self.answered.keep(answer);
+    /// Keeps the last answers of clients, where each is to a call of the node's site.
+    pub(crate) fn keep(&mut self, node: &LiveNode, answers: Vec<Answer>) -> bool
+        ensures { self.new.queue.items ≡ self.old.queue.items }
+    {
+        for answer in answers {
+            if !node.can_ask(answer.call) {
+                return false;
+            }
+            self.answered.keep(answer);
+        }
+        true
+    }
+
+    /// Answers the first requests that wait, whose calls were made, one after another.
+    pub(crate) fn answer_all(
+        &mut self,
+        alloc: Global,
+        answers: List<Made>,
+        outputs: &mut List<Output>,
+    ) -> Result<(), Memory>
+        ensures { OnOk result (self.new.queue.items ≡ drop (length answers.items) self.old.queue.items) }
+    {
+        for made in answers.into_vec() {
+            self.answer(alloc, made, outputs)?;
+        }
+        Ok(())
     }
 
     /// Answers the first request that waits, whose call was made. Where another call was made, which takes a packet that no node
@@ -114,7 +147,9 @@ impl Callers {
         alloc: Global,
         made: Made,
         outputs: &mut List<Output>,
-    ) -> Result<(), Memory> {
+    ) -> Result<(), Memory>
+        ensures { self.new.queue.items ≡ drop 1 self.old.queue.items }
+    {
         let path = self.places.next(made.round, made.path);
         let Some(request) = self.queue.pop_front() else {
             return Ok(());

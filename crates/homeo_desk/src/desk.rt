@@ -1,5 +1,14 @@
 //! A desk.
 
+ghost use Rattle.std.specs.Prelude.{◌≡◌, ◌<◌, ◌∷◌, [], length, map, IfOk, IfSome, OnOk};
+ghost use Rattle.homeo_syntax.specs.SourceView.{plain_workload};
+ghost use Rattle.homeo_plan.specs.Planned.{sites_of};
+ghost use Rattle.homeo_history.specs.Legal.{IsCallAt};
+ghost use Rattle.homeo_nodes.specs.Nodes.{resent};
+ghost use Rattle.homeo_nodes.specs.Small.{grown};
+ghost use Rattle.homeo_live.specs.LiveView.{plain_packet};
+ghost use Rattle.homeo_desk.specs.DeskView.{IsPaired};
+
 use crate::callers::{Callers, Standing};
 use crate::output::{Output, Request, To, Why};
 use crate::state::{DeskState, are_of};
@@ -11,6 +20,7 @@ use homeo_meaning::CallId;
 use homeo_nodes::{Breach, Mode};
 use homeo_syntax::{List, Memory, Prints};
 use std::alloc::Global;
+use std::marker::Model;
 use std::sync::Arc;
 
 /// A node with its callers.
@@ -20,14 +30,32 @@ pub struct Desk {
     callers: Callers,
 }
 
+impl Model for Desk {
+    ghost use Rattle.std.specs.Coded.{codes};
+    ghost use Rattle.homeo_syntax.specs.contracts.workload.Workload as workload;
+    ghost use Rattle.homeo_desk.specs.DeskView.{DeskValue};
+
+    ghost Value = { DeskValue };
+
+    ghost coded = { Prim.hlevel (codes, workload.the_row.coded) };
+
+    ghost view = { λ d. record { work = d.node.work; node = d.node.node; queue = d.callers.queue.items } };
+}
+
 impl Desk {
     /// The desk of a site in the round 0 on the initial database.
     ///
     /// # Errors
     ///
     /// `Memory` when out of memory.
-    pub fn begin(alloc: Global, c: Arc<Compiled>, site: u32) -> Result<Desk, Memory> {
-        let callers = Callers::new(alloc, client_count(c.workload()), 0, 0)?;
+    #[tactic(auto, unfolding(homeo_nodes::specs::Key::definitions))]
+    pub fn begin(alloc: Global, c: Arc<Compiled>, site: u32) -> Result<Desk, Memory>
+        requires { site < sites_of (plain_workload c.value) }
+        ensures work { IfOk result (λ d. d.work ≡ c.value) }
+        ensures paired { IfOk result IsPaired }
+    {
+        let clients = client_count(c.workload());
+        let callers = Callers::of(alloc, clients, 0, 0, Vec::new(alloc))?;
         let node = LiveNode::begin(alloc, c, site)?;
         Ok(Desk { node, callers })
     }
@@ -37,11 +65,15 @@ impl Desk {
     /// # Errors
     ///
     /// `Memory` when out of memory.
+    #[tactic(auto, unfolding(homeo_live::specs::Key::definitions))]
     pub fn begin_at(
         alloc: Global,
         c: Arc<Compiled>,
         state: DeskState,
-    ) -> Result<Option<Desk>, Memory> {
+    ) -> Result<Option<Desk>, Memory>
+        ensures work { IfOk result (λ o. IfSome o (λ d. d.work ≡ c.value)) }
+        ensures paired { IfOk result (λ o. IfSome o IsPaired) }
+    {
         let DeskState {
             node,
             made,
@@ -51,18 +83,13 @@ impl Desk {
         if !are_of(requests.as_slice(), node.queue.as_slice()) {
             return Ok(None);
         }
-        let mut callers = Callers::new(alloc, client_count(c.workload()), node.round, made)?;
+        let clients = client_count(c.workload());
+        let mut callers = Callers::of(alloc, clients, node.round, made, requests)?;
         let Some(node) = LiveNode::begin_at(alloc, c, node)? else {
             return Ok(None);
         };
-        for request in requests {
-            callers.add(request)?;
-        }
-        for answer in answers {
-            if !node.can_ask(answer.call) {
-                return Ok(None);
-            }
-            callers.keep(answer);
+        if !callers.keep(&node, answers) {
+            return Ok(None);
         }
         Ok(Some(Desk { node, callers }))
     }
@@ -82,12 +109,17 @@ impl Desk {
     }
 
     /// Lends the node.
-    pub fn node(&self) -> &LiveNode {
+    pub fn node(&self) -> &LiveNode
+        ensures work { result.now.work ≡ self.now.work }
+        ensures node { result.now.node ≡ self.now.node }
+    {
         &self.node
     }
 
     /// How many requests wait.
-    pub fn waiting(&self) -> usize {
+    pub fn waiting(&self) -> usize
+        ensures { result ≡ length self.now.queue }
+    {
         self.callers.waiting()
     }
 
@@ -101,7 +133,10 @@ impl Desk {
         alloc: Global,
         request: Request,
         outputs: &mut List<Output>,
-    ) -> Result<(), Memory> {
+    ) -> Result<(), Memory>
+        requires { IsCallAt (plain_workload self.old.work) self.old.node.number request.call }
+        ensures work { self.new.work ≡ self.old.work }
+    {
         match self.callers.standing(&request) {
             Standing::Answered(answer) => {
                 let again = answer.copy(alloc)?;
@@ -119,7 +154,10 @@ impl Desk {
         alloc: Global,
         request: Request,
         outputs: &mut List<Output>,
-    ) -> Result<(), Memory> {
+    ) -> Result<(), Memory>
+        requires { IsCallAt (plain_workload self.old.work) self.old.node.number request.call }
+        ensures work { self.new.work ≡ self.old.work }
+    {
         match self.node.ask(request.call)? {
             Step::Queued => {
                 self.callers.add(request)?;
@@ -141,7 +179,9 @@ impl Desk {
         from: u32,
         packet: Packet,
         outputs: &mut List<Output>,
-    ) -> Result<bool, Memory> {
+    ) -> Result<bool, Memory>
+        ensures work { self.new.work ≡ self.old.work }
+    {
         if packet.round() != self.node.round() {
             self.tell_left(alloc, from, packet.round(), outputs)?;
             return Ok(true);
@@ -170,7 +210,9 @@ impl Desk {
         alloc: Global,
         past: Past,
         outputs: &mut List<Output>,
-    ) -> Result<bool, Memory> {
+    ) -> Result<bool, Memory>
+        ensures work { self.new.work ≡ self.old.work }
+    {
         if past.breach.round != self.node.round() {
             return Ok(true);
         }
@@ -185,7 +227,9 @@ impl Desk {
         alloc: Global,
         past: Past,
         outputs: &mut List<Output>,
-    ) -> Result<bool, Memory> {
+    ) -> Result<bool, Memory>
+        ensures work { self.new.work ≡ self.old.work }
+    {
         let Past { breach, states } = past;
         let round = breach.round;
         if !self.take(alloc, Packet::Stop(breach), outputs)? {
@@ -213,15 +257,21 @@ impl Desk {
         }
         let mut sent = List::new(alloc);
         self.node.resend(alloc, &mut sent)?;
-        for packet in sent.into_vec().into_iter().take(count) {
-            self.let_out(packet, outputs)?;
-        }
+        let mut first = sent.into_vec();
+        first.truncate(count);
+        self.let_out_all(List::from_vec(first), outputs)?;
         Ok(())
     }
 
     /// The site of the round's arbiter.
-    fn arbiter(&self) -> u32 {
-        let sites = site_count(self.node.compiled().workload());
+    #[tactic(auto, using(homeo_plan::proofs::Policy::some_sites))]
+    fn arbiter(&self) -> u32
+        ensures { result < sites_of (plain_workload self.now.work) }
+    {
+        let w = self.node.compiled().workload();
+        // the workload is accepted
+        let _clients = client_count(w);
+        let sites = site_count(w);
         (self.node.round() % u64::from(sites)) as u32
     }
 
@@ -240,12 +290,7 @@ impl Desk {
     }
 
     /// Tells a site which call was chosen to close the round.
-    fn tell_stop(
-        &self,
-        to: u32,
-        chosen: Breach,
-        outputs: &mut List<Output>,
-    ) -> Result<(), Memory> {
+    fn tell_stop(&self, to: u32, chosen: Breach, outputs: &mut List<Output>) -> Result<(), Memory> {
         if to == self.node.number() {
             return Ok(());
         }
@@ -275,7 +320,9 @@ impl Desk {
         alloc: Global,
         packet: Packet,
         outputs: &mut List<Output>,
-    ) -> Result<bool, Memory> {
+    ) -> Result<bool, Memory>
+        ensures work { self.new.work ≡ self.old.work }
+    {
         let mut sent = List::new(alloc);
         let Some(step) = self.node.receive(alloc, packet, &mut sent)? else {
             return Ok(false);
@@ -294,7 +341,9 @@ impl Desk {
         alloc: Global,
         breach: Breach,
         outputs: &mut List<Output>,
-    ) -> Result<bool, Memory> {
+    ) -> Result<bool, Memory>
+        ensures work { self.new.work ≡ self.old.work }
+    {
         let mut sent = List::new(alloc);
         let Some(step) = self.node.receive(alloc, Packet::Stop(breach), &mut sent)? else {
             return Ok(false);
@@ -321,22 +370,19 @@ impl Desk {
     }
 
     /// Answers the requests whose calls were made by the end of the round, if it has ended: they are the first that wait.
-    fn tell(
-        &mut self,
-        alloc: Global,
-        step: Step,
-        outputs: &mut List<Output>,
-    ) -> Result<(), Memory> {
-        if let Step::Closed(answers) = step {
-            for made in answers.into_vec() {
-                self.callers.answer(alloc, made, outputs)?;
-            }
+    fn tell(&mut self, alloc: Global, step: Step, outputs: &mut List<Output>) -> Result<(), Memory>
+        ensures work { self.new.work ≡ self.old.work }
+    {
+        match step {
+            Step::Closed(answers) => self.callers.answer_all(alloc, answers, outputs),
+            _ => Ok(()),
         }
-        Ok(())
     }
 
     /// Goes on with the requests that wait, one after another, while the node runs.
-    fn serve(&mut self, alloc: Global, outputs: &mut List<Output>) -> Result<(), Memory> {
+    fn serve(&mut self, alloc: Global, outputs: &mut List<Output>) -> Result<(), Memory>
+        ensures work { self.new.work ≡ self.old.work }
+    {
         for _ in 0..MOST_WAITING {
             if !self.serve_one(alloc, outputs)? {
                 break;
@@ -346,7 +392,9 @@ impl Desk {
     }
 
     /// Goes on with the first request that waits, and says whether it may go on with the next.
-    fn serve_one(&mut self, alloc: Global, outputs: &mut List<Output>) -> Result<bool, Memory> {
+    fn serve_one(&mut self, alloc: Global, outputs: &mut List<Output>) -> Result<bool, Memory>
+        ensures work { self.new.work ≡ self.old.work }
+    {
         let mut sent = List::new(alloc);
         match self.node.serve(alloc, &mut sent)? {
             Step::Kept(call, prints) => {
@@ -375,7 +423,9 @@ impl Desk {
     }
 
     /// Sends the want by which the node waits to the arbiter, which may be the node itself.
-    fn want(&mut self, alloc: Global, outputs: &mut List<Output>) -> Result<(), Memory> {
+    fn want(&mut self, alloc: Global, outputs: &mut List<Output>) -> Result<(), Memory>
+        ensures work { self.new.work ≡ self.old.work }
+    {
         let Mode::Waiting(breach) = self.node.mode() else {
             return Ok(());
         };

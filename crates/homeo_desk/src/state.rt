@@ -1,5 +1,7 @@
 //! A desk as plain data.
 
+ghost use Rattle.std.specs.Prelude.{◌≡◌, IsTrue, map};
+
 use crate::output::{Answer, Request};
 use homeo_live::NodeState;
 use homeo_meaning::CallId;
@@ -15,7 +17,9 @@ pub struct DeskState {
 }
 
 /// Whether these requests are those of these calls, one for each, in order.
-pub(crate) fn are_of(requests: &[Request], calls: &[CallId]) -> bool {
+pub(crate) fn are_of(requests: &[Request], calls: &[CallId]) -> bool
+    ensures { IsTrue result → map (λ r. r.call) requests.now ≡ calls.now }
+{
     if requests.len() != calls.len() {
         return false;
     }
