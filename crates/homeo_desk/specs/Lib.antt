@@ -1,0 +1,2 @@
+pub mod DeskView
+pub mod LetOut

@@ -1,0 +1,452 @@
+//! A desk.
+
+ghost use Rattle.std.specs.Prelude.{◌≡◌, ◌<◌, ◌∷◌, [], length, map, IfOk, IfSome, OnOk};
+ghost use Rattle.homeo_syntax.specs.SourceView.{plain_workload};
+ghost use Rattle.homeo_plan.specs.Planned.{sites_of};
+ghost use Rattle.homeo_history.specs.Legal.{IsCallAt};
+ghost use Rattle.homeo_nodes.specs.Nodes.{resent};
+ghost use Rattle.homeo_nodes.specs.Small.{grown};
+ghost use Rattle.homeo_live.specs.LiveView.{plain_packet};
+ghost use Rattle.homeo_desk.specs.DeskView.{IsPaired};
+
+use crate::callers::{Callers, Standing};
+use crate::output::{Output, Request, To, Why};
+use crate::state::{DeskState, are_of};
+use homeo_build::Compiled;
+use homeo_core::clients::{client_count, site_count};
+use homeo_history::{Answer as Made, Path as Way};
+use homeo_live::{LiveNode, MOST_WAITING, Packet, Past, Step};
+use homeo_meaning::CallId;
+use homeo_nodes::{Breach, Mode};
+use homeo_syntax::{List, Memory, Prints};
+use std::alloc::Global;
+use std::marker::Model;
+use std::sync::Arc;
+
+/// A node with its callers.
+#[derive(Drop)]
+pub struct Desk {
+    node: LiveNode,
+    callers: Callers,
+}
+
+impl Model for Desk {
+    ghost use Rattle.std.specs.Coded.{codes};
+    ghost use Rattle.homeo_syntax.specs.contracts.workload.Workload as workload;
+    ghost use Rattle.homeo_desk.specs.DeskView.{DeskValue};
+
+    ghost Value = { DeskValue };
+
+    ghost coded = { Prim.hlevel (codes, workload.the_row.coded) };
+
+    ghost view = { λ d. record { work = d.node.work; node = d.node.node; queue = d.callers.queue.items } };
+}
+
+impl Desk {
+    /// The desk of a site in the round 0 on the initial database.
+    ///
+    /// # Errors
+    ///
+    /// `Memory` when out of memory.
+    #[tactic(auto, unfolding(homeo_nodes::specs::Key::definitions))]
+    pub fn begin(alloc: Global, c: Arc<Compiled>, site: u32) -> Result<Desk, Memory>
+        requires { site < sites_of (plain_workload c.value) }
+        ensures work { IfOk result (λ d. d.work ≡ c.value) }
+        ensures paired { IfOk result IsPaired }
+    {
+        let clients = client_count(c.workload());
+        let callers = Callers::of(alloc, clients, 0, 0, Vec::new(alloc))?;
+        let node = LiveNode::begin(alloc, c, site)?;
+        Ok(Desk { node, callers })
+    }
+
+    /// The desk that has this state, where a desk of the workload can have it.
+    ///
+    /// # Errors
+    ///
+    /// `Memory` when out of memory.
+    #[tactic(auto, unfolding(homeo_live::specs::Key::definitions))]
+    pub fn begin_at(
+        alloc: Global,
+        c: Arc<Compiled>,
+        state: DeskState,
+    ) -> Result<Option<Desk>, Memory>
+        ensures work { IfOk result (λ o. IfSome o (λ d. d.work ≡ c.value)) }
+        ensures paired { IfOk result (λ o. IfSome o IsPaired) }
+    {
+        let DeskState {
+            node,
+            made,
+            queue: requests,
+            answered: answers,
+        } = state;
+        if !are_of(requests.as_slice(), node.queue.as_slice()) {
+            return Ok(None);
+        }
+        let clients = client_count(c.workload());
+        let mut callers = Callers::of(alloc, clients, node.round, made, requests)?;
+        let Some(node) = LiveNode::begin_at(alloc, c, node)? else {
+            return Ok(None);
+        };
+        if !callers.keep(&node, answers) {
+            return Ok(None);
+        }
+        Ok(Some(Desk { node, callers }))
+    }
+
+    /// All that the desk is.
+    ///
+    /// # Errors
+    ///
+    /// `Memory` when out of memory.
+    pub fn state(&self, alloc: Global) -> Result<DeskState, Memory> {
+        Ok(DeskState {
+            node: self.node.state(alloc)?,
+            made: self.callers.made_in(self.node.round()),
+            queue: self.callers.requests(alloc)?,
+            answered: self.callers.answers(alloc)?,
+        })
+    }
+
+    /// Lends the node.
+    pub fn node(&self) -> &LiveNode
+        ensures work { result.now.work ≡ self.now.work }
+        ensures node { result.now.node ≡ self.now.node }
+    {
+        &self.node
+    }
+
+    /// How many requests wait.
+    pub fn waiting(&self) -> usize
+        ensures { result ≡ length self.now.queue }
+    {
+        self.callers.waiting()
+    }
+
+    /// Takes a request: it is answered at once, or waits, or was answered already, or is refused.
+    ///
+    /// # Errors
+    ///
+    /// `Memory` when out of memory. The desk may have changed, and some outputs may have been given.
+    pub fn ask(
+        &mut self,
+        alloc: Global,
+        request: Request,
+        outputs: &mut List<Output>,
+    ) -> Result<(), Memory>
+        requires { IsCallAt (plain_workload self.old.work) self.old.node.number request.call }
+        ensures work { self.new.work ≡ self.old.work }
+    {
+        match self.callers.standing(&request) {
+            Standing::Answered(answer) => {
+                let again = answer.copy(alloc)?;
+                outputs.push(Output::Again(request.caller, again))
+            }
+            Standing::Waits => Ok(()),
+            Standing::Late => outputs.push(refusal(request, Why::Late)),
+            Standing::New => self.take_on(alloc, request, outputs),
+        }
+    }
+
+    /// Takes on a request that is new, where not too many wait.
+    fn take_on(
+        &mut self,
+        alloc: Global,
+        request: Request,
+        outputs: &mut List<Output>,
+    ) -> Result<(), Memory>
+        requires { IsCallAt (plain_workload self.old.work) self.old.node.number request.call }
+        ensures work { self.new.work ≡ self.old.work }
+    {
+        match self.node.ask(request.call)? {
+            Step::Queued => {
+                self.callers.add(request)?;
+                self.serve(alloc, outputs)
+            }
+            _ => outputs.push(refusal(request, Why::Full)),
+        }
+    }
+
+    /// Takes a packet from a site. It says whether a node can have sent it; if none can, nothing has changed, but that a want may
+    /// have been chosen.
+    ///
+    /// # Errors
+    ///
+    /// `Memory` when out of memory. The desk may have changed, and some outputs may have been given.
+    pub fn receive(
+        &mut self,
+        alloc: Global,
+        from: u32,
+        packet: Packet,
+        outputs: &mut List<Output>,
+    ) -> Result<bool, Memory>
+        ensures work { self.new.work ≡ self.old.work }
+    {
+        if packet.round() != self.node.round() {
+            self.tell_left(alloc, from, packet.round(), outputs)?;
+            return Ok(true);
+        }
+        match (&packet, self.node.decided()) {
+            (Packet::Want(_), Some(chosen)) => {
+                self.tell_stop(from, chosen, outputs)?;
+                Ok(true)
+            }
+            _ => {
+                let fits = self.take(alloc, packet, outputs)?;
+                self.serve(alloc, outputs)?;
+                Ok(fits)
+            }
+        }
+    }
+
+    /// Takes how a site closed the round that it stopped in last. It says whether nodes can have closed it so; if they can't, the
+    /// desk may have taken a part of it.
+    ///
+    /// # Errors
+    ///
+    /// `Memory` when out of memory. The desk may have changed, and some outputs may have been given.
+    pub fn receive_left(
+        &mut self,
+        alloc: Global,
+        past: Past,
+        outputs: &mut List<Output>,
+    ) -> Result<bool, Memory>
+        ensures work { self.new.work ≡ self.old.work }
+    {
+        if past.breach.round != self.node.round() {
+            return Ok(true);
+        }
+        let fits = self.take_left(alloc, past, outputs)?;
+        self.serve(alloc, outputs)?;
+        Ok(fits)
+    }
+
+    /// Makes the node take how its round was closed: the stop, and what each site has said.
+    fn take_left(
+        &mut self,
+        alloc: Global,
+        past: Past,
+        outputs: &mut List<Output>,
+    ) -> Result<bool, Memory>
+        ensures work { self.new.work ≡ self.old.work }
+    {
+        let Past { breach, states } = past;
+        let round = breach.round;
+        if !self.take(alloc, Packet::Stop(breach), outputs)? {
+            return Ok(false);
+        }
+        let mut site = 0;
+        for said in states {
+            if !self.take(alloc, Packet::State { round, site, said }, outputs)? {
+                return Ok(false);
+            }
+            site = u32::saturating_add(site, 1);
+        }
+        Ok(true)
+    }
+
+    /// Sends again what others may still lack of the round. The desk stays.
+    ///
+    /// # Errors
+    ///
+    /// `Memory` when out of memory. Some outputs may have been given.
+    pub fn tick(&self, alloc: Global, outputs: &mut List<Output>) -> Result<(), Memory> {
+        let count = sent_by(self.node.mode());
+        if count == 0 {
+            return Ok(());
+        }
+        let mut sent = List::new(alloc);
+        self.node.resend(alloc, &mut sent)?;
+        let mut first = sent.into_vec();
+        first.truncate(count);
+        self.let_out_all(List::from_vec(first), outputs)?;
+        Ok(())
+    }
+
+    /// The site of the round's arbiter.
+    #[tactic(auto, using(homeo_plan::proofs::Policy::some_sites))]
+    fn arbiter(&self) -> u32
+        ensures { result < sites_of (plain_workload self.now.work) }
+    {
+        let w = self.node.compiled().workload();
+        // the workload is accepted
+        let _clients = client_count(w);
+        let sites = site_count(w);
+        (self.node.round() % u64::from(sites)) as u32
+    }
+
+    /// Lets out a packet to those that it is for; the desk itself is none of them.
+    fn let_out(&self, packet: Packet, outputs: &mut List<Output>) -> Result<(), Memory> {
+        match &packet {
+            Packet::Want(_) => {
+                let arbiter = self.arbiter();
+                if arbiter == self.node.number() {
+                    return Ok(());
+                }
+                outputs.push(Output::Packet(To::Site(arbiter), packet))
+            }
+            _ => outputs.push(Output::Packet(To::Others, packet)),
+        }
+    }
+
+    /// Tells a site which call was chosen to close the round.
+    fn tell_stop(&self, to: u32, chosen: Breach, outputs: &mut List<Output>) -> Result<(), Memory> {
+        if to == self.node.number() {
+            return Ok(());
+        }
+        outputs.push(Output::Packet(To::Site(to), Packet::Stop(chosen)))
+    }
+
+    /// Tells a site how the node closed this round, if it is the one that it stopped in last.
+    fn tell_left(
+        &self,
+        alloc: Global,
+        to: u32,
+        round: u64,
+        outputs: &mut List<Output>,
+    ) -> Result<(), Memory> {
+        let Some(past) = self.node.past() else {
+            return Ok(());
+        };
+        if past.breach.round != round || to == self.node.number() {
+            return Ok(());
+        }
+        outputs.push(Output::Left(to, past.copy(alloc)?))
+    }
+
+    /// Makes the node take a packet, and then its own stop, if it sends one.
+    fn take(
+        &mut self,
+        alloc: Global,
+        packet: Packet,
+        outputs: &mut List<Output>,
+    ) -> Result<bool, Memory>
+        ensures work { self.new.work ≡ self.old.work }
+    {
+        let mut sent = List::new(alloc);
+        let Some(step) = self.node.receive(alloc, packet, &mut sent)? else {
+            return Ok(false);
+        };
+        let chosen = self.let_out_all(sent, outputs)?;
+        self.tell(alloc, step, outputs)?;
+        match chosen {
+            Some(breach) => self.stop(alloc, breach, outputs),
+            None => Ok(true),
+        }
+    }
+
+    /// Makes the node take its own stop.
+    fn stop(
+        &mut self,
+        alloc: Global,
+        breach: Breach,
+        outputs: &mut List<Output>,
+    ) -> Result<bool, Memory>
+        ensures work { self.new.work ≡ self.old.work }
+    {
+        let mut sent = List::new(alloc);
+        let Some(step) = self.node.receive(alloc, Packet::Stop(breach), &mut sent)? else {
+            return Ok(false);
+        };
+        self.let_out_all(sent, outputs)?;
+        self.tell(alloc, step, outputs)?;
+        Ok(true)
+    }
+
+    /// Lets out what the node has sent, and gives the stop that is among it.
+    fn let_out_all(
+        &self,
+        sent: List<Packet>,
+        outputs: &mut List<Output>,
+    ) -> Result<Option<Breach>, Memory> {
+        let mut chosen = None;
+        for packet in sent.into_vec() {
+            if let Packet::Stop(breach) = &packet {
+                chosen = Some(*breach);
+            }
+            self.let_out(packet, outputs)?;
+        }
+        Ok(chosen)
+    }
+
+    /// Answers the requests whose calls were made by the end of the round, if it has ended: they are the first that wait.
+    fn tell(&mut self, alloc: Global, step: Step, outputs: &mut List<Output>) -> Result<(), Memory>
+        ensures work { self.new.work ≡ self.old.work }
+    {
+        match step {
+            Step::Closed(answers) => self.callers.answer_all(alloc, answers, outputs),
+            _ => Ok(()),
+        }
+    }
+
+    /// Goes on with the requests that wait, one after another, while the node runs.
+    fn serve(&mut self, alloc: Global, outputs: &mut List<Output>) -> Result<(), Memory>
+        ensures work { self.new.work ≡ self.old.work }
+    {
+        for _ in 0..MOST_WAITING {
+            if !self.serve_one(alloc, outputs)? {
+                break;
+            }
+        }
+        Ok(())
+    }
+
+    /// Goes on with the first request that waits, and says whether it may go on with the next.
+    fn serve_one(&mut self, alloc: Global, outputs: &mut List<Output>) -> Result<bool, Memory>
+        ensures work { self.new.work ≡ self.old.work }
+    {
+        let mut sent = List::new(alloc);
+        match self.node.serve(alloc, &mut sent)? {
+            Step::Kept(call, prints) => {
+                let made = self.kept(call, prints);
+                self.callers.answer(alloc, made, outputs)?;
+                Ok(true)
+            }
+            Step::Wanted(_) => {
+                self.want(alloc, outputs)?;
+                Ok(true)
+            }
+            _ => Ok(false),
+        }
+    }
+
+    /// The answer to a call that the node has made alone.
+    fn kept(&self, call: CallId, prints: Prints) -> Made {
+        Made {
+            client: call.client,
+            seq: call.seq,
+            site: self.node.number(),
+            round: self.node.round(),
+            path: Way::Local,
+            prints,
+        }
+    }
+
+    /// Sends the want by which the node waits to the arbiter, which may be the node itself.
+    fn want(&mut self, alloc: Global, outputs: &mut List<Output>) -> Result<(), Memory>
+        ensures work { self.new.work ≡ self.old.work }
+    {
+        let Mode::Waiting(breach) = self.node.mode() else {
+            return Ok(());
+        };
+        if self.arbiter() == self.node.number() {
+            self.take(alloc, Packet::Want(breach), outputs)?;
+            return Ok(());
+        }
+        self.let_out(Packet::Want(breach), outputs)
+    }
+}
+
+/// How many packets a node in this mode sends again of its round.
+fn sent_by(mode: Mode) -> usize {
+    match mode {
+        Mode::Running => 0,
+        Mode::Waiting(_) => 1,
+        Mode::Stopped(_) => 2,
+    }
+}
+
+/// A request is refused.
+fn refusal(request: Request, why: Why) -> Output {
+    Output::Refusal(request.caller, request.number, why)
+}

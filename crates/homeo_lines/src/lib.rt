@@ -1,0 +1,20 @@
+//! Lines of JSON: what comes to a node, and what it gives.
+#![tactic(auto)]
+
+mod catalogue;
+mod line;
+mod members;
+mod packets;
+mod reading;
+mod requests_reading;
+mod state_reading;
+mod state_writing;
+mod writing;
+mod written;
+mod wrong;
+
+pub use catalogue::Catalogue;
+pub use line::{Head, Init, Line, Message};
+pub use reading::read;
+pub use writing::{Body, write_line};
+pub use wrong::{FULL, LATE, NO_INIT, UNLISTED, Wrong, malformed};

@@ -1,0 +1,14 @@
+//! One node over a source and a sink: a text, then lines, each with its outputs.
+#![tactic(auto)]
+
+mod feed;
+mod frame;
+mod process;
+mod serving;
+mod shell;
+mod status;
+mod voice;
+
+pub use process::run;
+pub use shell::Shell;
+pub use status::Status;
