@@ -1,6 +1,6 @@
 //! The base of a round with the deltas of its sites.
 
-ghost use Rattle.std.specs.Prelude.{◌≡◌, ◌+ℤ◌, ℕ, take, map, IfOk, IfSome, IsSome, IsTrue, All, FitsSigned};
+ghost use Rattle.std.specs.Prelude.{◌≡◌, ◌+ℤ◌, IfOk, IfSome, IsSome, IsTrue, All, FitsSigned};
 ghost use Rattle.std.specs.Int.{w64};
 ghost use Rattle.homeo_round.specs.PlusDeltas.{plus_deltas};
 ghost use Rattle.homeo_nodes.specs.Nodes.{folded};
@@ -103,6 +103,7 @@ pub(crate) fn fold_said(
 /// `Memory` when out of memory.
 pub fn plus(alloc: Global, values: &[i64], deltas: &[i64]) -> Result<Option<Database>, Memory>
     ensures sum { IfOk result (λ o. IfSome o (λ d. d.items ≡ plus_deltas values.now deltas.now)) }
+    ensures fits { All (FitsSigned w64) (plus_deltas values.now deltas.now) → IfOk result IsSome }
 {
     let mut sum = Vec::from_slice(alloc, values)?;
     if !add_fits(sum.as_mut_slice(), deltas) {
