@@ -1,6 +1,6 @@
 -- What is known where there may be nothing.
 use Rattle.std.proofs.Common.{◌≡◌, ℕ, zero, suc, ◌<◌, List, [], ◌∷◌, length, get_or, Option, Some, None, refl, subst, arith}
-use Rattle.std.specs.Prelude.{slice_get, IfSome, IsSome, IfOk, Ok, Err, Result}
+use Rattle.std.specs.Prelude.{slice_get, IfSome, IsSome}
 
 pub if_some : {X : Type 0} (P : X → Type 0) (o : Option X) (x : X) → IfSome o P → o ≡ Some x → P x
 if_some P o x h e = subst (λ p. IfSome p P) e h
@@ -8,11 +8,6 @@ if_some P o x h e = subst (λ p. IfSome p P) e h
 pub some_of : {X : Type 0} (o : Option X) → IsSome o → (x : X) × (o ≡ Some x)
 some_of None h = absurd (cc)
 some_of (Some x) h = (x, refl)
-
-pub if_ok_some : {X E : Type 0} (r : Result (Option X) E) (P Q : X → Type 0) → ((x : X) → P x → Q x) → IfOk r (λ o. IfSome o P) → IfOk r (λ o. IfSome o Q)
-if_ok_some (Ok (Some x)) P Q f h = f x h
-if_ok_some (Ok None) P Q f h = tt
-if_ok_some (Err e) P Q f h = tt
 
 pub get_or_here : {X : Type 0} (xs : List X) (i : ℕ) (x : X) → i < length xs → x ≡ get_or xs i x → slice_get xs i ≡ Some x
 get_or_here [] i x lt e = absurd (omega (arith, lt))

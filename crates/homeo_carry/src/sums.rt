@@ -1,6 +1,6 @@
 //! The base of a round with the deltas of its sites.
 
-ghost use Rattle.std.specs.Prelude.{◌≡◌, ◌+ℤ◌, ℕ, take, map, IfOk, IfSome, IsSome, IsTrue, All, FitsSigned};
+ghost use Rattle.std.specs.Prelude.{◌≡◌, ◌+ℤ◌, IfOk, IfSome, IsSome, IsTrue, All, FitsSigned};
 ghost use Rattle.std.specs.Int.{w64};
 ghost use Rattle.homeo_round.specs.PlusDeltas.{plus_deltas};
 ghost use Rattle.homeo_nodes.specs.Nodes.{folded};
