@@ -45,6 +45,7 @@ wired m left made = record {
   states = map wired_state m.states;
 }
 
+-- a node of the wire that is this one: the same site, packets and rounds
 pub record IsWired (x : d.Node) (m : n.Node) : Type 0 where
   pub left : List d.Left
   pub made : List ℕ
@@ -52,6 +53,7 @@ pub record IsWired (x : d.Node) (m : n.Node) : Type 0 where
   pub left_is : map closed_left left ≡ m.journal.left
 
 -- ---- all nodes
+-- so all nodes, and the packets
 pub record AreWired (x : d.World) (y : n.World) : Type 0 where
   pub count : length x.nodes ≡ length y.nodes
   pub nodes : (i : ℕ) (v : d.Node) (m : n.Node) → slice_get x.nodes i ≡ Some v → slice_get y.nodes i ≡ Some m → IsWired v m
