@@ -1,19 +1,18 @@
 -- Nodes whose callers withdraw at each stop: their states carry nothing but the call that closes the round.
 use Rattle.homeo_nodes.specs.Key.{definitions as node_definitions}
-use Rattle.std.proofs.Common.{inl, inr, ◌≡◌, ℕ, zero, suc, List, [], ◌∷◌, ◌++◌, length, take, drop, Bool, true, false, cond, ℤ, Option, Some, None, refl, sym, ap, subst, ◌∙◌, slice_set, slice_index_or}
+use Rattle.std.proofs.Common.{◌≡◌, ℕ, zero, suc, ◌<◌, arith, List, [], ◌∷◌, ◌++◌, length, take, drop, Bool, true, false, cond, ℤ, Option, Some, None, refl, sym, ap, subst, ◌∙◌, slice_index_or}
 use Rattle.std.specs.Prelude.{slice_get, ◌==◌, ◌⊎◌}
 use mathlib.Core.Logic.{⊎_elim}
 use Rattle.homeo_syntax.specs.Source as s
 use Rattle.homeo_meaning.specs.declared.call.CallId.{CallId}
-use Rattle.homeo_history.proofs.Lists.{get_index, get_past}
+use Rattle.homeo_history.proofs.Lists.{get_index, get_past, get_same}
 use Rattle.homeo_nodes.specs.declared.breach.Breach.{Breach}
-use Rattle.homeo_nodes.specs.declared.breach.Mode.{Mode}
-use Rattle.homeo_nodes.specs.declared.breach.Mode.TheVariants.{Running, Waiting, Stopped}
-use Rattle.homeo_nodes.specs.Nodes.{Said, Packet, Stop, State, Node, is_running, rest_of, calls_at, all_of, own_calls, still_waits}
-use Rattle.homeo_nodes.proofs.Places.{AreThere, all_there}
+use Rattle.homeo_nodes.specs.declared.breach.Mode.TheVariants.{Stopped}
+use Rattle.homeo_nodes.specs.Nodes.{Said, Packet, Want, Stop, State, Node, is_running, rest_of, calls_at, all_of, still_waits}
+use Rattle.homeo_nodes.proofs.Places.{all_there}
 use Rattle.homeo_nodes.proofs.Sending.{Sent, sent_left, sent_cases}
 use Rattle.homeo_nodes.proofs.Settling.{Holds}
-use Rattle.homeo_nodes.proofs.Talking.{Hears}
+use Rattle.homeo_nodes.proofs.Talking.{Since, IsOverruled, Wants, Hears}
 
 -- ---- packets
 -- the state of a site carries nothing besides the call that stopped its round
@@ -88,6 +87,22 @@ module _ (w : s.Workload) (ns : List Node) (ps : List Packet) (holds : Holds w n
       let p = plain m.journal.site.round k said sent in
       let own = hears.stopped u stop in
       subst (λ b. calls_at b k said ≡ []) (holds.talk.one.stop p.by u p.stop own.0 (p.round ∙ sym own.1)) p.none
+
+  -- at its own site it is the first that waits
+  unruled : (b : Breach) → b.round ≡ m.journal.site.round → Sent ps (Stop b) → IsOverruled b m → ⊥
+  unruled b same sent o =
+      let h = hears.stopped o.by o.mode in
+      o.other (ap (λ (a : Breach). a.site) (holds.talk.one.stop o.by b h.0 sent (h.1 ∙ sym same)))
+
+  pub own_first : m.journal.site.number ≡ u.site → (rest : List CallId) × (m.queue ≡ u.call ∷ rest)
+  own_first own =
+      let h = hears.stopped u stop in
+      let since : Since ns u.site u.round (Wants w u) = (holds.talk.packets (Want u) (holds.talk.packets (Stop u) h.0).0).1 in
+      let same : since.node ≡ m = get_same ns i since.node m (subst (λ k. slice_get ns k ≡ Some since.node) (sym own ∙ hears.numbered) since.here) here in
+      let now : (u.round < m.journal.site.round) ⊎ ((m.journal.site.round ≡ u.round) × Wants w u m) =
+      subst (λ (y : Node). (u.round < y.journal.site.round) ⊎ ((y.journal.site.round ≡ u.round) × Wants w u y)) same since.since in
+      let wants : Wants w u m = ⊎_elim (λ lt. let e = h.1 in absurd (omega (arith, lt, e))) (λ p. p.1) now in
+      ⊎_elim (λ f. f) (λ o. absurd (unruled u h.1 h.0 o)) wants.first
 
   no_calls : (o : Option Said) → slice_get all m.journal.site.number ≡ o → calls_at u m.journal.site.number (slice_index_or all m.journal.site.number (record { deltas = []; calls = [] })) ≡ []
   no_calls None e = ap (calls_at u m.journal.site.number) (get_past all m.journal.site.number (record { deltas = []; calls = [] }) e) ∙ none_said (m.journal.site.number == u.site)

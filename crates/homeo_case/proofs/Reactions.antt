@@ -5,6 +5,7 @@ use Rattle.homeo_wire.specs.Key.{definitions as wire_definitions}
 use Rattle.std.proofs.Common.{◌≡◌, ℕ, zero, suc, List, [], ◌∷◌, ◌++◌, map, drop, replicate, Bool, true, false, cond, ℤ, Option, Some, None, refl, sym, ap, subst, ◌∙◌, slice_set, slice_index_or}
 use Rattle.std.specs.Prelude.{slice_get, is_some, not, option_map, ◌&&◌, ◌==◌, ◌%◌}
 use Rattle.std.proofs.lemmas.List.{append-nil, map-append}
+use mathlib.Core.Logic.{⊎_elim}
 use Rattle.homeo_syntax.specs.Source as s
 use Rattle.homeo_meaning.specs.declared.call.CallId.{CallId}
 use Rattle.homeo_meaning.specs.Acceptance.{IsAccepted}
@@ -19,16 +20,17 @@ use Rattle.homeo_nodes.specs.declared.breach.Breach.{Breach}
 use Rattle.homeo_nodes.specs.declared.breach.Mode.{Mode}
 use Rattle.homeo_nodes.specs.declared.breach.Mode.TheVariants.{Running, Waiting, Stopped}
 use Rattle.homeo_nodes.specs.Nodes as n
-use Rattle.homeo_nodes.proofs.Places.{cond_true, cond_false, is_true, map_set}
+use Rattle.homeo_nodes.proofs.Places.{same_or_not, test_true, test_false, cond_true, cond_false, is_true, map_set}
 use Rattle.homeo_nodes.proofs.Plain.{plain_closes}
-use Rattle.homeo_nodes.proofs.Reacting.{keep_holds, not_true}
+use Rattle.homeo_nodes.proofs.Reacting.{keep_holds}
 use Rattle.homeo_nodes.proofs.Sending.{Sent, sent_left, sent_one}
 use Rattle.homeo_nodes.proofs.Settling.{Holds}
 use Rattle.homeo_nodes.proofs.Withdrawing.{withdraw_holds}
 use Rattle.homeo_wire.specs.declared.breach.Mode.TheVariants as variant
 use Rattle.homeo_wire.specs.Nodes as d
 use Rattle.homeo_case.specs.Case.{wired_breach, wired_packet, wired_mode, wired_state, closed_left, wired, IsWired}
-use Rattle.homeo_case.proofs.Plain.{IsPlainState, ArePlain, plain_with, own_count, IsPlainNode, drop_take, withdrawn_none, nothing_carried, nothing_waits}
+use Rattle.homeo_case.proofs.Counting.{IsNext, IsCounted, same_counted, made_counted, waits_counted, less_counted, closing_counted}
+use Rattle.homeo_case.proofs.Plain.{IsPlainState, ArePlain, plain_with, own_count, IsPlainNode, drop_take, withdrawn_none, nothing_carried, own_first, nothing_waits}
 
 -- ---- the same functions
 folded_same : (base : List ℤ) (states : List (List ℤ)) → d.folded base states ≡ n.folded base states
@@ -83,11 +85,16 @@ drop_nil zero (x ∷ xs) e = e
 drop_nil (suc k) [] e = refl
 drop_nil (suc k) (x ∷ xs) e = absurd (cc)
 
+drop_none : {X : Type 0} (xs : List X) → drop 0 xs ≡ xs
+drop_none [] = refl
+drop_none (x ∷ xs) = refl
+
 -- ---- what both do
-pub record Agrees (ps : List n.Packet) (r : d.Reaction) (q : n.Reaction) : Type 0 where
+pub record Agrees (w : s.Workload) (ps : List n.Packet) (r : d.Reaction) (q : n.Reaction) : Type 0 where
   pub node : IsWired r.node q.node
   pub sends : r.sends ≡ map wired_packet q.sends
   pub own : IsPlainNode q.node
+  pub counted : IsCounted w r.node.journal.made q.node
   pub packets : ArePlain (ps ++ q.sends)
 
 same_packets : (ps : List n.Packet) → ArePlain ps → ArePlain (ps ++ [])
@@ -97,19 +104,20 @@ no_state : (b : Breach) (ps : List n.Packet) (p : n.Packet) → ((r k : ℕ) (sa
 no_state b ps p never r k said sent = absurd (never r k said (sent_one p (n.State r k said) sent))
 
 -- ---- a call: the node takes it on, and tries it
-module _ (w : s.Workload) (ps : List n.Packet) (plain : ArePlain ps) (m : n.Node) (left : List d.Left) (made : List ℕ) (lefts : map closed_left left ≡ m.journal.left) (call : CallId) where
+module _ (w : s.Workload) (ps : List n.Packet) (plain : ArePlain ps) (m : n.Node) (left : List d.Left) (made : List ℕ) (lefts : map closed_left left ≡ m.journal.left) (counted : IsCounted w made m) (idle : m.queue ≡ []) (call : CallId) (next : IsNext w made call) where
   abbrev pub taken_on : n.Node
   taken_on = record m {
     journal = record { site = m.journal.site; left = m.journal.left; asked = m.journal.asked ++ call ∷ [] };
     queue = m.queue ++ call ∷ [];
   }
 
-  pub tried_agrees : (o : Option Broken) → Agrees ps (d.tried w (wired m left made) call o) (n.tried w taken_on call [] o)
+  pub tried_agrees : (o : Option Broken) → Agrees w ps (d.tried w (wired m left made) call o) (n.tried w taken_on call [] o)
   unfolding node_definitions wire_definitions site_definitions
   tried_agrees None = record {
     node = record { left = left; made = slice_set made call.client call.seq; node = refl; left_is = lefts };
     sends = refl;
     own = record { running = λ e. refl; stopped = λ u e. drop_nil (own_count m u) [] refl };
+    counted = made_counted w made m (n.tried w taken_on call [] None).node counted call idle next refl refl;
     packets = same_packets ps plain;
   }
   tried_agrees (Some broken) =
@@ -118,20 +126,22 @@ module _ (w : s.Workload) (ps : List n.Packet) (plain : ArePlain ps) (m : n.Node
         node = record { left = left; made = made; node = refl; left_is = lefts };
         sends = refl;
         own = record { running = λ e. absurd (cc); stopped = λ u e. absurd (let f : Waiting b ≡ Stopped u = e in cc) };
+        counted = waits_counted w made m (n.tried w taken_on call [] (Some broken)).node counted call idle next refl (ap (λ q. q ++ call ∷ []) idle);
         packets = plain_with ps (n.Want b ∷ []) plain (no_state b ps (n.Want b) (λ r k said e. cc));
       }
 
 -- ---- the end of a round
-record Settles (v : d.Node) (q : n.Node) : Type 0 where
+record Settles (w : s.Workload) (v : d.Node) (q : n.Node) : Type 0 where
   pub node : IsWired v q
   pub own : IsPlainNode q
+  pub counted : IsCounted w v.journal.made q
 
-module _ (w : s.Workload) (ns : List n.Node) (ps : List n.Packet) (holds : Holds w ns ps) (plain : ArePlain ps) (i : ℕ) (m : n.Node) (here : slice_get ns i ≡ Some m) (own : IsPlainNode m) (left : List d.Left) (made : List ℕ) (lefts : map closed_left left ≡ m.journal.left) where
+module _ (w : s.Workload) (ns : List n.Node) (ps : List n.Packet) (holds : Holds w ns ps) (plain : ArePlain ps) (i : ℕ) (m : n.Node) (here : slice_get ns i ≡ Some m) (own : IsPlainNode m) (left : List d.Left) (made : List ℕ) (lefts : map closed_left left ≡ m.journal.left) (counted : IsCounted w made m) where
   abbrev v : d.Node
   v = wired m left made
 
-  still : Settles v m
-  still = record { node = record { left = left; made = made; node = refl; left_is = lefts }; own = own }
+  still : Settles w v m
+  still = record { node = record { left = left; made = made; node = refl; left_is = lefts }; own = own; counted = counted }
 
   module _ (u : Breach) (all : List n.Said) (stop : m.mode ≡ Stopped u) (states : n.all_of m.states ≡ Some all) where
     abbrev whole : List ℤ
@@ -174,17 +184,46 @@ module _ (w : s.Workload) (ns : List n.Node) (ps : List n.Packet) (holds : Holds
         ∙ ap (λ ls. ls ++ n.newest w u all m.journal ∷ []) lefts
         ∙ ap (λ (j : n.Journal). j.left) (sym then_is)
 
-    closes : Settles (d.settled_by w v (wired_mode (Stopped u)) (option_map deltas (Some all))) (n.settled_by w m (Stopped u) (Some all))
+    abbrev node' : n.Node
+    node' = n.in_round w (n.past_of u all) (n.still_waits u all m.journal.site.number m.queue) then
+
+    none_waits : n.still_waits u all m.journal.site.number m.queue ≡ []
+    none_waits = nothing_waits w ns ps holds plain i m here u all stop states (own.stopped u stop)
+
+    asked_then : node'.journal.asked ≡ m.journal.asked
+    unfolding node_definitions
+    asked_then = ap (λ (j : n.Journal). j.asked) then_is
+
+    queue_then : node'.queue ≡ []
+    unfolding node_definitions
+    queue_then = none_waits
+
+    counted_then : IsCounted w made_then node'
+    counted_then = ⊎_elim at_home away (same_or_not u.site m.journal.site.number)
+      where
+        at_home : u.site ≡ m.journal.site.number → IsCounted w made_then node'
+        at_home e =
+            let first = own_first w ns ps holds plain i m here u all stop states (sym e) in
+            subst (λ ks. IsCounted w ks node') (sym (cond_true (u.site == m.journal.site.number) (slice_set made u.call.client u.call.seq) made (test_true u.site m.journal.site.number e))) (closing_counted w made m node' counted u.call first.0 first.1 asked_then queue_then)
+
+        away : (u.site ≡ m.journal.site.number → ⊥) → IsCounted w made_then node'
+        away d =
+            let count : own_count m u ≡ 0 = cond_false (m.journal.site.number == u.site) 1 0 (test_false m.journal.site.number u.site (λ e. d (sym e))) in
+            let none : m.queue ≡ [] = sym (drop_none m.queue) ∙ ap (λ k. drop k m.queue) (sym count) ∙ own.stopped u stop in
+            subst (λ ks. IsCounted w ks node') (sym (cond_false (u.site == m.journal.site.number) (slice_set made u.call.client u.call.seq) made (test_false u.site m.journal.site.number d))) (same_counted w made m node' counted asked_then (queue_then ∙ sym none))
+
+    closes : Settles w (d.settled_by w v (wired_mode (Stopped u)) (option_map deltas (Some all))) (n.settled_by w m (Stopped u) (Some all))
     unfolding node_definitions wire_definitions
     closes = record {
       node = record { left = left_then; made = made_then; node = node_is; left_is = lefts_then };
       own = record {
-        running = λ e. nothing_waits w ns ps holds plain i m here u all stop states (own.stopped u stop);
+        running = λ e. none_waits;
         stopped = λ b e. absurd (let f : Running ≡ Stopped b = e in cc);
       };
+      counted = counted_then;
     }
 
-  settles_by : (mode : Mode) (o : Option (List n.Said)) → m.mode ≡ mode → n.all_of m.states ≡ o → Settles (d.settled_by w v (wired_mode mode) (option_map deltas o)) (n.settled_by w m mode o)
+  settles_by : (mode : Mode) (o : Option (List n.Said)) → m.mode ≡ mode → n.all_of m.states ≡ o → Settles w (d.settled_by w v (wired_mode mode) (option_map deltas o)) (n.settled_by w m mode o)
   unfolding node_definitions wire_definitions
   settles_by Running None e f = still
   settles_by Running (Some all) e f = still
@@ -193,43 +232,45 @@ module _ (w : s.Workload) (ns : List n.Node) (ps : List n.Packet) (holds : Holds
   settles_by (Stopped u) None e f = still
   settles_by (Stopped u) (Some all) e f = closes u all e f
 
-  settles : Settles (d.settled w v) (n.settled w m)
+  settles : Settles w (d.settled w v) (n.settled w m)
   unfolding node_definitions wire_definitions
   settles =
-      subst (λ o. Settles (d.settled_by w v (wired_mode m.mode) o) (n.settled_by w m m.mode (n.all_of m.states))) (sym (all_same m.states)) (settles_by m.mode (n.all_of m.states) refl refl)
+      subst (λ o. Settles w (d.settled_by w v (wired_mode m.mode) o) (n.settled_by w m m.mode (n.all_of m.states))) (sym (all_same m.states)) (settles_by m.mode (n.all_of m.states) refl refl)
 
 -- ---- a packet
-module _ (w : s.Workload) (ns : List n.Node) (ps : List n.Packet) (accepted : IsAccepted w) (holds : Holds w ns ps) (plain : ArePlain ps) (i : ℕ) (m : n.Node) (here : slice_get ns i ≡ Some m) (own : IsPlainNode m) (left : List d.Left) (made : List ℕ) (lefts : map closed_left left ≡ m.journal.left) where
+module _ (w : s.Workload) (ns : List n.Node) (ps : List n.Packet) (accepted : IsAccepted w) (holds : Holds w ns ps) (plain : ArePlain ps) (i : ℕ) (m : n.Node) (here : slice_get ns i ≡ Some m) (own : IsPlainNode m) (left : List d.Left) (made : List ℕ) (lefts : map closed_left left ≡ m.journal.left) (counted : IsCounted w made m) where
   abbrev of_wire : d.Node
   of_wire = wired m left made
 
-  idle : (a : d.Step) (b : n.Step) → Agrees ps (d.stays of_wire a) (n.stays m b)
+  idle : (a : d.Step) (b : n.Step) → Agrees w ps (d.stays of_wire a) (n.stays m b)
   idle a b = record {
     node = record { left = left; made = made; node = refl; left_is = lefts };
     sends = refl;
     own = own;
+    counted = counted;
     packets = same_packets ps plain;
   }
 
-  want_agrees : (b : Breach) (t : Bool) → Agrees ps (cond t (record { node = record of_wire { decided = true }; sends = d.Stop (wired_breach b) ∷ []; step = d.Taken }) (d.stays of_wire d.Ignored)) (cond t (record { node = record m { decided = Some b }; sends = n.Stop b ∷ []; step = n.Taken }) (n.stays m n.Ignored))
+  want_agrees : (b : Breach) (t : Bool) → Agrees w ps (cond t (record { node = record of_wire { decided = true }; sends = d.Stop (wired_breach b) ∷ []; step = d.Taken }) (d.stays of_wire d.Ignored)) (cond t (record { node = record m { decided = Some b }; sends = n.Stop b ∷ []; step = n.Taken }) (n.stays m n.Ignored))
   want_agrees b true = record {
     node = record { left = left; made = made; node = refl; left_is = lefts };
     sends = refl;
     own = record { running = own.running; stopped = own.stopped };
+    counted = same_counted w made m (record m { decided = Some b }) counted refl refl;
     packets = plain_with ps (n.Stop b ∷ []) plain (no_state b ps (n.Stop b) (λ r k said e. cc));
   }
   want_agrees b false = idle d.Ignored n.Ignored
 
   -- ---- a state
   module _ (k : ℕ) (said : n.Said) (sent : Sent ps (n.State m.journal.site.round k said)) where
-    keeps : Settles (d.settled w (d.keeping of_wire k said.deltas)) (n.settled w (n.keeping m k said))
+    keeps : Settles w (d.settled w (d.keeping of_wire k said.deltas)) (n.settled w (n.keeping m k said))
     unfolding node_definitions wire_definitions
     keeps =
-        subst (λ (states : List (Option (List ℤ))). Settles (d.settled w (record of_wire { states = states })) (n.settled w (n.keeping m k said))) (map_set wired_state m.states k (Some said)) (settles w (slice_set ns i (n.keeping m k said)) (ps ++ []) (keep_holds w ns ps accepted holds i m here (n.State m.journal.site.round k said) sent refl m.journal.site.round k said refl) (same_packets ps plain) i (n.keeping m k said) (get_set_same ns i m (n.keeping m k said) here) (record { running = own.running; stopped = own.stopped }) left made lefts)
+        subst (λ (states : List (Option (List ℤ))). Settles w (d.settled w (record of_wire { states = states })) (n.settled w (n.keeping m k said))) (map_set wired_state m.states k (Some said)) (settles w (slice_set ns i (n.keeping m k said)) (ps ++ []) (keep_holds w ns ps accepted holds i m here (n.State m.journal.site.round k said) sent refl m.journal.site.round k said refl) (same_packets ps plain) i (n.keeping m k said) (get_set_same ns i m (n.keeping m k said) here) (record { running = own.running; stopped = own.stopped }) left made lefts (same_counted w made m (n.keeping m k said) counted refl refl))
 
-    state_agrees : (t : Bool) → Agrees ps (cond t (d.stays of_wire d.Ignored) (record { node = d.settled w (d.keeping of_wire k said.deltas); sends = []; step = d.Taken })) (cond t (n.stays m n.Ignored) (record { node = n.settled w (n.keeping m k said); sends = []; step = n.closing_step w (n.keeping m k said) }))
+    state_agrees : (t : Bool) → Agrees w ps (cond t (d.stays of_wire d.Ignored) (record { node = d.settled w (d.keeping of_wire k said.deltas); sends = []; step = d.Taken })) (cond t (n.stays m n.Ignored) (record { node = n.settled w (n.keeping m k said); sends = []; step = n.closing_step w (n.keeping m k said) }))
     state_agrees true = idle d.Ignored n.Ignored
-    state_agrees false = record { node = keeps.node; sends = refl; own = keeps.own; packets = same_packets ps plain }
+    state_agrees false = record { node = keeps.node; sends = refl; own = keeps.own; counted = keeps.counted; packets = same_packets ps plain }
 
   -- ---- a stop
   module _ (b : Breach) (sent : Sent ps (n.Stop b)) (round : b.round ≡ m.journal.site.round) (free : n.is_stopped m.mode ≡ true → ⊥) where
@@ -268,26 +309,26 @@ module _ (w : s.Workload) (ns : List n.Node) (ps : List n.Packet) (accepted : Is
           subst (λ a. drop (cond (m.journal.site.number == a.site) 1 0) (n.withdrawing m b).queue ≡ []) same (drop_take (cond (m.journal.site.number == b.site) 1 0) m.queue);
     }
 
-    stops : Settles (d.settled w (d.stopped of_wire (wired_breach b))) (n.settled w n')
+    stops : Settles w (d.settled w (d.stopped of_wire (wired_breach b))) (n.settled w n')
     unfolding node_definitions wire_definitions
     stops =
-        subst (λ (states : List (Option (List ℤ))). Settles (d.settled w (record of_wire { mode = variant.Stopped (wired_breach b); states = states })) (n.settled w n')) (map_set wired_state m.states m.journal.site.number (Some (n.said_by m'))) (settles w (slice_set ns i n') (ps ++ state ∷ []) (withdraw_holds w ns ps accepted holds i m here b sent round free) packets_then i n' (get_set_same ns i m n' here) own_then left made lefts)
+        subst (λ (states : List (Option (List ℤ))). Settles w (d.settled w (record of_wire { mode = variant.Stopped (wired_breach b); states = states })) (n.settled w n')) (map_set wired_state m.states m.journal.site.number (Some (n.said_by m'))) (settles w (slice_set ns i n') (ps ++ state ∷ []) (withdraw_holds w ns ps accepted holds i m here b sent round free) packets_then i n' (get_set_same ns i m n' here) own_then left made lefts (less_counted w made m n' counted (cond (m.journal.site.number == b.site) 1 0) refl refl))
 
-    stop_agrees : Agrees ps (record { node = d.settled w (d.stopped of_wire (wired_breach b)); sends = d.State m.journal.site.round m.journal.site.number m.journal.site.deltas ∷ []; step = d.Taken }) (record { node = n.settled w n'; sends = state ∷ []; step = n.closing_step w n' })
+    stop_agrees : Agrees w ps (record { node = d.settled w (d.stopped of_wire (wired_breach b)); sends = d.State m.journal.site.round m.journal.site.number m.journal.site.deltas ∷ []; step = d.Taken }) (record { node = n.settled w n'; sends = state ∷ []; step = n.closing_step w n' })
     unfolding node_definitions
-    stop_agrees = record { node = stops.node; sends = refl; own = stops.own; packets = packets_then }
+    stop_agrees = record { node = stops.node; sends = refl; own = stops.own; counted = stops.counted; packets = packets_then }
 
   -- ---- any packet that was sent
-  comes_want : (b : Breach) (t : Bool) → Agrees ps (cond t (d.taken w of_wire (d.Want (wired_breach b))) (d.stays of_wire d.Ignored)) (cond t (n.taken w m (n.Want b)) (n.stays m n.Ignored))
+  comes_want : (b : Breach) (t : Bool) → Agrees w ps (cond t (d.taken w of_wire (d.Want (wired_breach b))) (d.stays of_wire d.Ignored)) (cond t (n.taken w m (n.Want b)) (n.stays m n.Ignored))
   unfolding node_definitions wire_definitions
   comes_want b true =
       want_agrees b ((m.journal.site.number == (m.journal.site.round % sites_of w)) && not (is_some m.decided))
   comes_want b false = idle d.Ignored n.Ignored
 
-  comes_state : (r k : ℕ) (said : n.Said) → Sent ps (n.State r k said) → (t : Bool) → (r == m.journal.site.round) ≡ t → Agrees ps (cond t (d.taken w of_wire (d.State r k said.deltas)) (d.stays of_wire d.Ignored)) (cond t (n.taken w m (n.State r k said)) (n.stays m n.Ignored))
+  comes_state : (r k : ℕ) (said : n.Said) → Sent ps (n.State r k said) → (t : Bool) → (r == m.journal.site.round) ≡ t → Agrees w ps (cond t (d.taken w of_wire (d.State r k said.deltas)) (d.stays of_wire d.Ignored)) (cond t (n.taken w m (n.State r k said)) (n.stays m n.Ignored))
   unfolding node_definitions wire_definitions
   comes_state r k said sent true e =
-      subst (λ t. Agrees ps (cond t (d.stays of_wire d.Ignored) (record { node = d.settled w (d.keeping of_wire k said.deltas); sends = []; step = d.Taken })) (n.taken w m (n.State r k said))) (sym (has_same m.states k)) (state_agrees k said (subst (λ a. Sent ps (n.State a k said)) (is_true r m.journal.site.round e) sent) (n.has_state m.states k))
+      subst (λ t. Agrees w ps (cond t (d.stays of_wire d.Ignored) (record { node = d.settled w (d.keeping of_wire k said.deltas); sends = []; step = d.Taken })) (n.taken w m (n.State r k said))) (sym (has_same m.states k)) (state_agrees k said (subst (λ a. Sent ps (n.State a k said)) (is_true r m.journal.site.round e) sent) (n.has_state m.states k))
   comes_state r k said sent false e = idle d.Ignored n.Ignored
 
   module _ (b : Breach) (sent : Sent ps (n.Stop b)) where
@@ -316,17 +357,17 @@ module _ (w : s.Workload) (ns : List n.Node) (ps : List n.Packet) (accepted : Is
     unfolding node_definitions
     other_is e = cond_false (b.round == m.journal.site.round) (n.taken w m (n.Stop b)) (n.stays m n.Ignored) e
 
-    comes_stop : (t u : Bool) → (b.round == m.journal.site.round) ≡ t → n.is_stopped m.mode ≡ u → Agrees ps (cond t (cond u (d.stays of_wire d.Ignored) dstop) (d.stays of_wire d.Ignored)) (n.received w (n.Stop b) (cond (t && not u) (n.withdrawing m b) m))
+    comes_stop : (t u : Bool) → (b.round == m.journal.site.round) ≡ t → n.is_stopped m.mode ≡ u → Agrees w ps (cond t (cond u (d.stays of_wire d.Ignored) dstop) (d.stays of_wire d.Ignored)) (n.received w (n.Stop b) (cond (t && not u) (n.withdrawing m b) m))
     comes_stop true true e f =
-        subst (Agrees ps (d.stays of_wire d.Ignored)) (sym (ignored_is true e (again_is f))) (idle d.Ignored n.Ignored)
+        subst (Agrees w ps (d.stays of_wire d.Ignored)) (sym (ignored_is true e (again_is f))) (idle d.Ignored n.Ignored)
     comes_stop true false e f =
-        subst (Agrees ps dstop) (sym (taken_is e f)) (stop_agrees b sent (is_true b.round m.journal.site.round e) (λ g. let h : true ≡ false = sym g ∙ f in cc))
-    comes_stop false true e f = subst (Agrees ps (d.stays of_wire d.Ignored)) (sym (other_is e)) (idle d.Ignored n.Ignored)
-    comes_stop false false e f = subst (Agrees ps (d.stays of_wire d.Ignored)) (sym (other_is e)) (idle d.Ignored n.Ignored)
+        subst (Agrees w ps dstop) (sym (taken_is e f)) (stop_agrees b sent (is_true b.round m.journal.site.round e) (λ g. let h : true ≡ false = sym g ∙ f in cc))
+    comes_stop false true e f = subst (Agrees w ps (d.stays of_wire d.Ignored)) (sym (other_is e)) (idle d.Ignored n.Ignored)
+    comes_stop false false e f = subst (Agrees w ps (d.stays of_wire d.Ignored)) (sym (other_is e)) (idle d.Ignored n.Ignored)
 
-  pub comes : (p : n.Packet) → Sent ps p → Agrees ps (d.received w (wired_packet p) of_wire) (n.received w p (n.withdrawn p m))
+  pub comes : (p : n.Packet) → Sent ps p → Agrees w ps (d.received w (wired_packet p) of_wire) (n.received w p (n.withdrawn p m))
   unfolding node_definitions wire_definitions
   comes (n.Want b) sent = comes_want b (b.round == m.journal.site.round)
   comes (n.State r k said) sent = comes_state r k said sent (r == m.journal.site.round) refl
   comes (n.Stop b) sent =
-      subst (λ u. Agrees ps (cond (b.round == m.journal.site.round) (cond u (d.stays of_wire d.Ignored) (dstop b sent)) (d.stays of_wire d.Ignored)) (n.received w (n.Stop b) (n.withdrawn (n.Stop b) m))) (sym (stopped_same m.mode)) (comes_stop b sent (b.round == m.journal.site.round) (n.is_stopped m.mode) refl refl)
+      subst (λ u. Agrees w ps (cond (b.round == m.journal.site.round) (cond u (d.stays of_wire d.Ignored) (dstop b sent)) (d.stays of_wire d.Ignored)) (n.received w (n.Stop b) (n.withdrawn (n.Stop b) m))) (sym (stopped_same m.mode)) (comes_stop b sent (b.round == m.journal.site.round) (n.is_stopped m.mode) refl refl)

@@ -1,5 +1,5 @@
 -- All nodes of the wire are nodes that are asked calls.
-use Rattle.homeo_site.specs.Key.{definitions as site_definitions}
+use Rattle.homeo_history.specs.Key.{definitions as history_definitions}
 use Rattle.homeo_nodes.specs.Key.{definitions as node_definitions}
 use Rattle.homeo_wire.specs.Key.{definitions as wire_definitions}
 use Rattle.std.proofs.Common.{◌≡◌, ℕ, zero, suc, ◌<◌, nat_lt, List, [], ◌∷◌, ◌++◌, map, length, replicate, Bool, true, false, cond, Option, Some, None, refl, sym, ap, subst, ◌∙◌, arith, slice_set, slice_index_or}
@@ -12,19 +12,23 @@ use Rattle.homeo_syntax.specs.Source as s
 use Rattle.homeo_meaning.specs.declared.call.CallId.{CallId}
 use Rattle.homeo_meaning.specs.Acceptance.{IsAccepted}
 use Rattle.homeo_plan.specs.Planned.{sites_of}
-use Rattle.homeo_history.specs.Legal.{client_site, call_count}
+use Rattle.homeo_history.specs.Legal.{IsClientAt, client_site, call_count}
+use Rattle.homeo_history.proofs.Exists.{client_lt}
 use Rattle.homeo_history.proofs.Lists.{get_lt, get_some, get_same, get_set_same, get_set_other, length_set, get_map_back}
 use Rattle.homeo_site.specs.SiteState.{step_finding}
-use Rattle.homeo_nodes.specs.declared.breach.Mode.TheVariants.{Running, Waiting, Stopped}
+use Rattle.homeo_nodes.specs.declared.breach.Mode.TheVariants.{Running, Stopped}
 use Rattle.homeo_nodes.specs.Nodes as n
 use Rattle.homeo_nodes.proofs.Happening.{IsHeld, events_hold}
+use Rattle.homeo_nodes.specs.Ordered.{AskedInOrder}
+use Rattle.homeo_nodes.proofs.Ordered.{legal_where_ordered}
 use Rattle.homeo_nodes.proofs.Places.{same_or_not, set_itself, set_twice, cond_true}
-use Rattle.homeo_nodes.proofs.Sending.{Sent, sent_at}
+use Rattle.homeo_nodes.proofs.Sending.{sent_at}
 use Rattle.homeo_nodes.proofs.Starting.{start_holds}
 use Rattle.homeo_wire.specs.declared.events.Event.{Event}
 use Rattle.homeo_wire.specs.declared.events.Event.TheVariants.{Call, Deliver}
 use Rattle.homeo_wire.specs.Nodes as d
-use Rattle.homeo_case.specs.Case.{wired_packet, wired_state, closed_left, wired, IsWired, AreWired, IsCase}
+use Rattle.homeo_case.specs.Case.{wired_packet, closed_left, wired, IsWired, AreWired, LeadsTo, IsCase}
+use Rattle.homeo_case.proofs.Counting.{IsNext, IsCounted, first_counted, counted_range}
 use Rattle.homeo_case.proofs.Plain.{ArePlain, IsPlainNode}
 use Rattle.homeo_case.proofs.Reactions.{running_same, Agrees, taken_on, tried_agrees, comes, none_kept}
 
@@ -32,6 +36,7 @@ record Meets (w : s.Workload) (x : d.World) (y : n.World) : Type 0 where
   pub are : AreWired x y
   pub held : IsHeld w y
   pub own : (i : ℕ) (m : n.Node) → slice_get y.nodes i ≡ Some m → IsPlainNode m
+  pub counted : (i : ℕ) (v : d.Node) (m : n.Node) → slice_get x.nodes i ≡ Some v → slice_get y.nodes i ≡ Some m → IsCounted w v.journal.made m
   pub plain : ArePlain y.packets
 
 abbrev then : n.World → ℕ → n.Reaction → n.World
@@ -41,7 +46,7 @@ abbrev wire_then : d.World → ℕ → d.Reaction → d.World
 wire_then x i r = record { nodes = slice_set x.nodes i r.node; packets = x.packets ++ r.sends }
 
 -- ---- one node reacts in each
-module _ (w : s.Workload) (x : d.World) (y : n.World) (h : Meets w x y) (i : ℕ) (v : d.Node) (m : n.Node) (there : slice_get x.nodes i ≡ Some v) (here : slice_get y.nodes i ≡ Some m) (r : d.Reaction) (q : n.Reaction) (agree : Agrees y.packets r q) where
+module _ (w : s.Workload) (x : d.World) (y : n.World) (h : Meets w x y) (i : ℕ) (v : d.Node) (m : n.Node) (there : slice_get x.nodes i ≡ Some v) (here : slice_get y.nodes i ≡ Some m) (r : d.Reaction) (q : n.Reaction) (agree : Agrees w y.packets r q) where
   wired_at : (k : ℕ) (a : d.Node) (b : n.Node) → slice_get (slice_set x.nodes i r.node) k ≡ Some a → slice_get (slice_set y.nodes i q.node) k ≡ Some b → IsWired a b
   wired_at k a b e f = ⊎_elim own (λ other. h.are.nodes k a b (sym (get_set_other x.nodes i k r.node other) ∙ e) (sym (get_set_other y.nodes i k q.node other) ∙ f)) (same_or_not k i)
     where
@@ -50,6 +55,15 @@ module _ (w : s.Workload) (x : d.World) (y : n.World) (h : Meets w x y) (i : ℕ
           let is : r.node ≡ a = get_same (slice_set x.nodes i r.node) i r.node a (get_set_same x.nodes i v r.node there) (subst (λ j. slice_get (slice_set x.nodes i r.node) j ≡ Some a) same e) in
           let is' : q.node ≡ b = get_same (slice_set y.nodes i q.node) i q.node b (get_set_same y.nodes i m q.node here) (subst (λ j. slice_get (slice_set y.nodes i q.node) j ≡ Some b) same f) in
           subst (λ z. IsWired z b) is (subst (IsWired r.node) is' agree.node)
+
+  counted_at : (k : ℕ) (a : d.Node) (b : n.Node) → slice_get (slice_set x.nodes i r.node) k ≡ Some a → slice_get (slice_set y.nodes i q.node) k ≡ Some b → IsCounted w a.journal.made b
+  counted_at k a b e f = ⊎_elim own (λ other. h.counted k a b (sym (get_set_other x.nodes i k r.node other) ∙ e) (sym (get_set_other y.nodes i k q.node other) ∙ f)) (same_or_not k i)
+    where
+      own : k ≡ i → IsCounted w a.journal.made b
+      own same =
+          let is : r.node ≡ a = get_same (slice_set x.nodes i r.node) i r.node a (get_set_same x.nodes i v r.node there) (subst (λ j. slice_get (slice_set x.nodes i r.node) j ≡ Some a) same e) in
+          let is' : q.node ≡ b = get_same (slice_set y.nodes i q.node) i q.node b (get_set_same y.nodes i m q.node here) (subst (λ j. slice_get (slice_set y.nodes i q.node) j ≡ Some b) same f) in
+          subst (λ (z : d.Node). IsCounted w z.journal.made b) is (subst (IsCounted w r.node.journal.made) is' agree.counted)
 
   own_at : (k : ℕ) (b : n.Node) → slice_get (slice_set y.nodes i q.node) k ≡ Some b → IsPlainNode b
   own_at k b f = ⊎_elim own (λ other. h.own k b (sym (get_set_other y.nodes i k q.node other) ∙ f)) (same_or_not k i)
@@ -67,6 +81,7 @@ module _ (w : s.Workload) (x : d.World) (y : n.World) (h : Meets w x y) (i : ℕ
     };
     held = held;
     own = own_at;
+    counted = counted_at;
     plain = agree.packets;
   }
 
@@ -89,6 +104,10 @@ found : (x : d.World) (y : n.World) (i : ℕ) (v : d.Node) → AreWired x y → 
 found x y i v h e = get_some y.nodes i (subst (λ k. i < k) h.count (get_lt x.nodes i v e))
 
 -- ---- a call
+is_client_at : (w : s.Workload) (site client : ℕ) → client_site w client ≡ Some site → IsClientAt w site client
+unfolding history_definitions
+is_client_at w site client e = e
+
 listed : (made count : ℕ) → nat_lt made count ≡ true → (nat_lt zero (suc made) && nat_lt (suc made) (suc count)) ≡ true
 listed made count e =
     let a : nat_lt zero (suc made) ≡ true = grind (arith, nat_tests) in
@@ -102,6 +121,12 @@ module _ (w : s.Workload) (accepted : IsAccepted w) (x : d.World) (y : n.World) 
   abbrev call : CallId
   call = record { client = client; seq = suc (slice_index_or made client 0) }
 
+  counted : IsCounted w made m
+  counted = h.counted home v m there here
+
+  next : IsNext w made call
+  next = record { seq = refl; client = client_lt w home client (is_client_at w home client at) }
+
   -- a node that stays leaves all as it was
   held_still : Leads w y (wire_then x home (d.stays v d.Held))
   held_still =
@@ -114,7 +139,7 @@ module _ (w : s.Workload) (accepted : IsAccepted w) (x : d.World) (y : n.World) 
     idle = (h.own home m here).running running
 
     abbrev m1 : n.Node
-    m1 = taken_on w y.packets h.plain m left made lefts call
+    m1 = taken_on w y.packets h.plain m left made lefts counted idle call next
 
     abbrev y1 : n.World
     y1 = record { nodes = slice_set y.nodes home m1; packets = y.packets ++ [] }
@@ -164,7 +189,7 @@ module _ (w : s.Workload) (accepted : IsAccepted w) (x : d.World) (y : n.World) 
 
     made_leads : Leads w y (wire_then x home (d.tried w v call (step_finding w m.journal.site call)))
     made_leads =
-        by_events w y (then y home q) (wire_then x home (d.tried w v call (step_finding w m.journal.site call))) (n.Ask call ∷ n.Serve home ∷ []) both_are (reacted w x y h home v m there here (d.tried w v call (step_finding w m.journal.site call)) q (tried_agrees w y.packets h.plain m left made lefts call (step_finding w m.journal.site call)) (held_then w y (then y home q) (n.Ask call ∷ n.Serve home ∷ []) accepted h.held both_are))
+        by_events w y (then y home q) (wire_then x home (d.tried w v call (step_finding w m.journal.site call))) (n.Ask call ∷ n.Serve home ∷ []) both_are (reacted w x y h home v m there here (d.tried w v call (step_finding w m.journal.site call)) q (tried_agrees w y.packets h.plain m left made lefts counted idle call next (step_finding w m.journal.site call)) (held_then w y (then y home q) (n.Ask call ∷ n.Serve home ∷ []) accepted h.held both_are))
 
   calls_by : (t u : Bool) → n.is_running m.mode ≡ t → nat_lt (slice_index_or made client 0) (call_count w client) ≡ u → Leads w y (wire_then x home (cond (t && u) (d.tried w v call (step_finding w m.journal.site call)) (d.stays v d.Held)))
   calls_by true true e f = made_leads e f
@@ -205,7 +230,7 @@ module _ (w : s.Workload) (accepted : IsAccepted w) (x : d.World) (y : n.World) 
 
       comes_leads : Leads w y (wire_then x site (d.received w (wired_packet p) (wired m left made)))
       comes_leads =
-          by_events w y (then y site q') (wire_then x site (d.received w (wired_packet p) (wired m left made))) (n.Withdraw site k ∷ []) withdraw_is (reacted w x y h site (wired m left made) m there here (d.received w (wired_packet p) (wired m left made)) q' (comes w y.nodes y.packets accepted h.held h.plain site m here (h.own site m here) left made lefts p (sent_at y.packets k p sent)) (held_then w y (then y site q') (n.Withdraw site k ∷ []) accepted h.held withdraw_is))
+          by_events w y (then y site q') (wire_then x site (d.received w (wired_packet p) (wired m left made))) (n.Withdraw site k ∷ []) withdraw_is (reacted w x y h site (wired m left made) m there here (d.received w (wired_packet p) (wired m left made)) q' (comes w y.nodes y.packets accepted h.held h.plain site m here (h.own site m here) left made lefts (h.counted site (wired m left made) m there here) p (sent_at y.packets k p sent)) (held_then w y (then y site q') (n.Withdraw site k ∷ []) accepted h.held withdraw_is))
 
     comes_at : (o : Option d.Node) → slice_get x.nodes site ≡ o → Leads w y (d.reacts x site o (d.received w (wired_packet p))).world
     unfolding wire_definitions
@@ -265,6 +290,13 @@ module _ (w : s.Workload) where
       let same : a.0 ≡ b.0 = get_same (range_with_len 0 (sites_of w)) i a.0 b.0 a.1.0 b.1.0 in
       subst (λ z. IsWired z m) a.1.1 (subst (IsWired (wire_first a.0)) b.1.1 (subst (λ k. IsWired (wire_first a.0) (n.first_node w k)) same (first_wired a.0)))
 
+  start_counted : (i : ℕ) (v : d.Node) (m : n.Node) → slice_get (map wire_first (range_with_len 0 (sites_of w))) i ≡ Some v → slice_get (map (n.first_node w) (range_with_len 0 (sites_of w))) i ≡ Some m → IsCounted w v.journal.made m
+  unfolding wire_definitions node_definitions
+  start_counted i v m e f =
+      let a = get_map_back wire_first (range_with_len 0 (sites_of w)) i v e in
+      let b = get_map_back (n.first_node w) (range_with_len 0 (sites_of w)) i m f in
+      subst (λ (z : d.Node). IsCounted w z.journal.made m) a.1.1 (subst (IsCounted w (replicate (length w.clients) 0)) b.1.1 (first_counted w (n.first_node w b.0) refl refl))
+
   first_own : (site : ℕ) → IsPlainNode (n.first_node w site)
   unfolding node_definitions
   first_own site = record { running = λ e. refl; stopped = λ u e. absurd (let f : Running ≡ Stopped u = e in cc) }
@@ -278,12 +310,28 @@ module _ (w : s.Workload) where
       packets = refl;
     };
     held = start_holds w accepted;
+    counted = start_counted;
     own = λ i m e. let b = get_map_back (n.first_node w) (range_with_len 0 (sites_of w)) i m e in subst IsPlainNode b.1.1 (first_own b.0);
     plain = λ r k said h. absurd h;
   }
+
+-- ---- each client's calls are taken on in order
+ordered : (w : s.Workload) (x : d.World) (y : n.World) → Meets w x y → AskedInOrder w y
+unfolding node_definitions
+ordered w x y h i client m here at =
+    let v = get_some x.nodes i (subst (λ k. i < k) (sym h.are.count) (get_lt y.nodes i m here)) in
+    counted_range w v.0.journal.made m (h.counted i v.0 m v.1 here) client
+
+leads_to : (w : s.Workload) (x : d.World) (asks : List n.Event) → IsAccepted w → Meets w x (n.reached w asks) → LeadsTo w x asks
+unfolding node_definitions
+leads_to w x asks accepted h = record {
+  are = h.are;
+  ordered = ordered w x (n.reached w asks) h;
+  legal = legal_where_ordered w asks accepted (ordered w x (n.reached w asks) h);
+}
 
 pub is_case : IsCase
 unfolding wire_definitions node_definitions
 is_case w events accepted =
     let led = events_lead w events (d.at_start w) (n.at_start w) accepted (start_meets w accepted) in
-    (led.0, led.1.are)
+    (led.0, leads_to w (d.reached w events) led.0 accepted led.1)

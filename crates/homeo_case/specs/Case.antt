@@ -6,6 +6,7 @@ use Rattle.homeo_nodes.specs.declared.breach.Breach.{Breach}
 use Rattle.homeo_nodes.specs.declared.breach.Mode.{Mode}
 use Rattle.homeo_nodes.specs.declared.breach.Mode.TheVariants as mode
 use Rattle.homeo_nodes.specs.Nodes as n
+use Rattle.homeo_nodes.specs.Ordered.{AskedInOrder, IsLegalStory}
 use Rattle.homeo_wire.specs.declared.breach.Breach as wire_breach
 use Rattle.homeo_wire.specs.declared.breach.Mode as wire_mode
 use Rattle.homeo_wire.specs.declared.breach.Mode.TheVariants as variant
@@ -44,6 +45,7 @@ wired m left made = record {
   states = map wired_state m.states;
 }
 
+-- a node of the wire that is this one: the same site, packets and rounds
 pub record IsWired (x : d.Node) (m : n.Node) : Type 0 where
   pub left : List d.Left
   pub made : List ℕ
@@ -51,13 +53,20 @@ pub record IsWired (x : d.Node) (m : n.Node) : Type 0 where
   pub left_is : map closed_left left ≡ m.journal.left
 
 -- ---- all nodes
+-- so all nodes, and the packets
 pub record AreWired (x : d.World) (y : n.World) : Type 0 where
   pub count : length x.nodes ≡ length y.nodes
   pub nodes : (i : ℕ) (v : d.Node) (m : n.Node) → slice_get x.nodes i ≡ Some v → slice_get y.nodes i ≡ Some m → IsWired v m
   pub packets : x.packets ≡ map wired_packet y.packets
 
+-- these events lead there, with each client's calls taken on in the order of its list; so what the nodes have done is a legal history
+pub record LeadsTo (w : s.Workload) (x : d.World) (asks : List n.Event) : Type 0 where
+  pub are : AreWired x (n.reached w asks)
+  pub ordered : AskedInOrder w (n.reached w asks)
+  pub legal : IsLegalStory w (n.reached w asks)
+
 -- whatever happens on the wire, there are events of nodes that are asked calls which lead to the same
 abbrev pub IsCase : Type 0
 IsCase =
     (w : s.Workload) (events : List Event) → IsAccepted w →
-    (asks : List n.Event) × AreWired (d.reached w events) (n.reached w asks)
+    (asks : List n.Event) × LeadsTo w (d.reached w events) asks

@@ -28,7 +28,7 @@ at_take w i (suc n) [] a = tt
 at_take w i (suc n) (c ∷ cs) a = (a.0, at_take w i n cs a.1)
 
 -- a list that ends with the queue loses the same end
-less_asked : {X : Type 0} (xs queue all : List X) (n : ℕ) → xs ++ queue ≡ all → xs ++ take n queue ≡ take (length all - length (drop n queue)) all
+pub less_asked : {X : Type 0} (xs queue all : List X) (n : ℕ) → xs ++ queue ≡ all → xs ++ take n queue ≡ take (length all - length (drop n queue)) all
 less_asked xs queue all n e =
     let split : all ≡ (xs ++ take n queue) ++ drop n queue =
     sym e ∙ ap (λ q. xs ++ q) (sym (take-append-drop n queue)) ∙ sym (append_assoc xs (take n queue) (drop n queue)) in
