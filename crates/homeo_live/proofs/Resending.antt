@@ -1,6 +1,5 @@
 -- What a node sends again.
 use Rattle.homeo_nodes.specs.Key.{definitions as node_definitions}
-use Rattle.homeo_live.specs.Key.{definitions}
 use Rattle.std.proofs.Common.{◌≡◌, ℕ, zero, suc, ◌<◌, ◌≤◌, List, [], ◌∷◌, ◌++◌, map, length, get_or, Option, Some, None, Result, Ok, Err, sym, ap, ◌∙◌, arith, append_assoc, append-nil}
 use Rattle.std.specs.Prelude.{OnOk, IfSome, slice_index_or}
 use Rattle.std.proofs.lemmas.List.{map-append}

@@ -1,8 +1,6 @@
 use Rattle.homeo_live.specs.Key.{definitions}
-use Rattle.std.proofs.Common.{◌++◌, map, sym, ap, ◌∙◌}
-use Rattle.std.proofs.lemmas.List.{append-nil, take_all}
+use Rattle.std.proofs.Common.{map, ap}
 use Rattle.homeo_nodes.specs.Nodes as n
-use Rattle.homeo_carry.specs.CarryView.{plain_said}
 use Rattle.homeo_live.specs.LiveView.{plain_packet}
 use Rattle.homeo_live.specs.declared.packet.Packet.TheVariants as packet
 use Rattle.homeo_live.proofs.LiveLists.{sent_next}

@@ -1,5 +1,5 @@
 use Rattle.homeo_live.specs.Key.{definitions}
-use Rattle.std.proofs.Common.{◌≡◌, true, ◌<◌, ◌+ℤ◌, length, refl, sym, ap, subst, ◌∙◌}
+use Rattle.std.proofs.Common.{◌≡◌, true, ◌<◌, ◌+ℤ◌, length, sym, ap, subst, ◌∙◌}
 use Rattle.std.specs.Prelude.{is_some}
 use Rattle.homeo_syntax.specs.SourceView.{plain_workload}
 use Rattle.homeo_syntax.specs.declared.workload.Workload.{Workload}
