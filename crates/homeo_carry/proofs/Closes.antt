@@ -22,7 +22,7 @@ use Rattle.homeo_nodes.specs.Brief.{Brief, Answered, brief_at, site_at, briefly_
 use Rattle.homeo_nodes.specs.Coming.{CanClose}
 use Rattle.homeo_nodes.specs.Making.{Called, AreCalls}
 use Rattle.homeo_nodes.specs.Nodes as n
-use Rattle.homeo_nodes.specs.Nodes.{folded, deltas_of, carried, whole_of, next_of, newest, closed, own_answer, answers_then}
+use Rattle.homeo_nodes.specs.Nodes.{folded, deltas_of, carried, next_of, newest, closed, own_answer, answers_then}
 use Rattle.homeo_nodes.proofs.Brief.{brief_is, brief_within}
 use Rattle.homeo_carry.specs.CarryView.{plain_said, journal_of, without_segment, IsClosed}
 use Rattle.homeo_carry.specs.declared.answers.Answers.{Answers}

@@ -1,11 +1,9 @@
 //! A node that runs by itself.
 
-ghost use Rattle.std.specs.Prelude.{◌≡◌, ◌<◌, ◌≤◌, ◌==◌, ◌%◌, ◌&&◌, not, ◌∷◌, ◌++◌, [], Some, None, is_some, true, IsTrue, length, map, option_map, slice_index_or, IfOk, IfSome, IsSome, OnOk, OnErr};
+ghost use Rattle.std.specs.Prelude.{◌≡◌, ◌<◌, ◌==◌, ◌%◌, ◌&&◌, not, ◌∷◌, ◌++◌, [], Some, None, is_some, true, IsTrue, length, map, option_map, slice_index_or, IfOk, IfSome, IsSome, OnOk, OnErr};
 ghost use Rattle.homeo_syntax.specs.SourceView.{plain_workload};
-ghost use Rattle.homeo_meaning.specs.declared.call.CallId.{CallId};
 ghost use Rattle.homeo_plan.specs.Planned.{sites_of};
 ghost use Rattle.homeo_history.specs.Legal.{IsCallAt};
-ghost use Rattle.homeo_site.specs.SiteState.{step_finding};
 ghost use Rattle.homeo_nodes.specs.declared.breach.Mode.TheVariants.{Stopped};
 ghost use Rattle.homeo_nodes.specs.Coming.{CanCome};
 ghost use Rattle.homeo_nodes.specs.Nodes as n;

@@ -1,6 +1,6 @@
 //! What nodes send, and what comes of an input.
 
-ghost use Rattle.std.specs.Prelude.{◌≡◌, IfOk};
+ghost use Rattle.std.specs.Prelude.{◌≡◌};
 ghost use Rattle.homeo_nodes.specs.Nodes.{round_of};
 ghost use Rattle.homeo_live.specs.LiveView.{plain_packet};
 

@@ -17,7 +17,7 @@ use Rattle.homeo_history.specs.Replayed.{IsReplayed}
 use Rattle.homeo_history.proofs.Lists.{get_map_back, get_same, get_left, get_end}
 use Rattle.homeo_history.proofs.Rounds.{first_is, only_last, serial_end}
 use Rattle.homeo_site.specs.SiteState.{SiteState}
-use Rattle.homeo_core.specs.Joined.{BookState, AreJoined, segments_of, open_round, gathered, rounds_of}
+use Rattle.homeo_core.specs.Joined.{BookState, AreJoined, open_round, gathered, rounds_of}
 use Rattle.homeo_core.specs.Joined as core
 use Rattle.homeo_core.proofs.OpenRound as open_round_facts
 use Rattle.homeo_nodes.specs.declared.breach.Breach.{Breach}

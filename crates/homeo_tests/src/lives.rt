@@ -123,7 +123,11 @@ fn check_past(rt: &impl Abort, alloc: Global, node: &LiveNode) {
     let mut sent = List::new(alloc);
     node.resend(alloc, &mut sent).expect(rt, "memory");
     match sent.as_slice() {
-        [Packet::Stop(_), Packet::State { said: first, .. }, Packet::State { said: second, .. }] => {
+        [
+            Packet::Stop(_),
+            Packet::State { said: first, .. },
+            Packet::State { said: second, .. },
+        ] => {
             same_items(rt, first.deltas.as_slice(), [-2].as_slice());
             same_items(rt, second.deltas.as_slice(), [-2].as_slice());
             same(rt, &second.calls.len(), &1);
