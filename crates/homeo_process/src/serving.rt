@@ -49,21 +49,27 @@ fn serve_call(
     if !desk.node().can_ask(call) {
         return voice.fail(alloc, &head, UNLISTED, out);
     }
-    match head {
-        Head {
-            from: Some(caller),
-            number: Some(number),
-        } => {
-            let mut outputs = List::new(alloc);
-            let request = Request {
-                caller,
-                number,
-                call,
-            };
-            desk.ask(alloc, request, &mut outputs)?;
-            voice.tell_all(alloc, outputs, out)
-        }
-        head => voice.fail(alloc, &head, malformed(NO_CALLER), out),
+    let Some(number) = head.number else {
+        return voice.fail(alloc, &head, malformed(NO_CALLER), out);
+    };
+    let Some(caller) = head.from else {
+        return voice.fail(alloc, &nobody(number), malformed(NO_CALLER), out);
+    };
+    let mut outputs = List::new(alloc);
+    let request = Request {
+        caller,
+        number,
+        call,
+    };
+    desk.ask(alloc, request, &mut outputs)?;
+    voice.tell_all(alloc, outputs, out)
+}
+
+/// A line of this number that doesn't say from whom it comes.
+fn nobody(number: u64) -> Head {
+    Head {
+        from: None,
+        number: Some(number),
     }
 }
 
@@ -107,12 +113,7 @@ fn serve_left(
     voice.fail(alloc, head, malformed(UNFIT), out)
 }
 
-fn serve_tick(
-    alloc: Global,
-    voice: &Voice,
-    desk: &Desk,
-    out: &mut Vec<u8>,
-) -> Result<(), Memory> {
+fn serve_tick(alloc: Global, voice: &Voice, desk: &Desk, out: &mut Vec<u8>) -> Result<(), Memory> {
     let mut outputs = List::new(alloc);
     desk.tick(alloc, &mut outputs)?;
     voice.tell_all(alloc, outputs, out)
@@ -128,4 +129,3 @@ fn serve_snapshot(
     let state = desk.state(alloc)?;
     voice.reply(alloc, head, &Body::SnapshotOk(head.number, &state), out)
 }
-

@@ -101,10 +101,11 @@ impl Shell {
         site: u32,
         state: Option<DeskState>,
     ) -> Result<Option<Desk>, Memory> {
-        if site >= self.voice.catalogue().sites() {
+        let catalogue = self.voice.catalogue();
+        if site >= catalogue.sites() {
             return Ok(None);
         }
-        let compiled = self.voice.catalogue().compiled()?;
+        let compiled = catalogue.compiled()?;
         match state {
             None => Ok(Some(Desk::begin(alloc, compiled, site)?)),
             Some(state) => {

@@ -127,12 +127,7 @@ impl Voice {
     }
 
     /// Gives a packet to all nodes but its own.
-    fn tell_others(
-        &self,
-        alloc: Global,
-        packet: &Packet,
-        out: &mut Vec<u8>,
-    ) -> Result<(), Memory> {
+    fn tell_others(&self, alloc: Global, packet: &Packet, out: &mut Vec<u8>) -> Result<(), Memory> {
         let mut site = 0;
         for id in self.ids.as_slice() {
             if self.own != Some(site) {
