@@ -1,8 +1,9 @@
 -- Moves, put together.
 use Rattle.std.proofs.Common.{◌≡◌, ℕ, List, [], ◌∷◌, ◌++◌, map, refl, sym, ap, subst, ◌∙◌, append_assoc, append-nil}
-use Rattle.std.specs.Prelude.{Contains}
+use Rattle.std.specs.Prelude.{Contains, Option, Some, IfSome}
 use Rattle.homeo_syntax.specs.Source as s
 use Rattle.homeo_syntax.specs.SourceView.{plain_workload}
+use Rattle.homeo_syntax.specs.declared.workload.Workload.{Workload}
 use Rattle.homeo_meaning.specs.declared.call.CallId.{CallId}
 use Rattle.homeo_history.specs.Answers as h
 use Rattle.homeo_nodes.specs.Key.{definitions}
@@ -17,7 +18,7 @@ use Rattle.homeo_desk.specs.declared.output.Output.{Output}
 use Rattle.homeo_desk.specs.DeskView.{DeskValue}
 use Rattle.homeo_desk.specs.Moves.{reacts, sent_after, told_after, IsOf, AreOf, IsMove}
 use Rattle.homeo_desk.specs.Outputs.{AreIn, Gives}
-use Rattle.homeo_desk.proofs.Giving.{in_itself, in_left, in_right, in_both, gives_nothing, gives_then, gives_wider}
+use Rattle.homeo_desk.proofs.Giving.{in_itself, in_nothing, in_left, in_right, in_both, gives_nothing, gives_then, gives_wider}
 
 -- ---- inputs, one list after another
 module _ (w : s.Workload) where
@@ -120,6 +121,10 @@ then calls ps qs a b c x y z m i k =
       work = k.work ∙ m.work;
     }
 
+-- nothing is given to the second
+pub then_free : (calls : List CallId) (ps : List n.Packet) (a b c : DeskValue) (x y z : List Output) → IsMove calls ps a b x y → IsMove calls [] b c y z → IsMove calls ps a c x z
+then_free calls ps a b c x y z m k = then calls ps [] a b c x y z m (in_nothing (ps ++ sent_after (plain_workload a.work) m.inputs a.node)) k
+
 -- more may be given
 pub of_wider : (calls more : List CallId) (ps qs : List n.Packet) (a b : DeskValue) (x y : List Output) →
     ((c : CallId) → Contains calls c → Contains more c) → AreIn ps qs → IsMove calls ps a b x y → IsMove more qs a b x y
@@ -152,6 +157,14 @@ input_then calls ps qs old new newer x y z input is node work gives i k =
     then calls ps qs old new newer x y z m (subst (λ l. AreIn qs (ps ++ l)) (sym (append-nil r.sends)) i) k
 
 -- ---- by what came of an input in memory
+pub came_at : (f : s.Workload → Small → n.Reaction) (v w : Workload) (x y : Small) (o : Option Step) (step : Step) (new : Small) (before sent : List Packet) →
+    v ≡ w → x ≡ y → before ≡ [] → o ≡ Some step → IfSome o (IsReaction (f (plain_workload v) x) new before sent) → IsReaction (f (plain_workload w) y) new [] sent step
+came_at f v w x y o step new before sent e g h is came =
+    subst (λ z. IsReaction (f (plain_workload w) z) new [] sent step) g
+    (subst (λ z. IsReaction (f (plain_workload z) x) new [] sent step) e
+    (subst (λ z. IsReaction (f (plain_workload v) x) new z sent step) h
+    (subst (λ z. IfSome z (IsReaction (f (plain_workload v) x) new before sent)) is came)))
+
 pub gives_sent : (r : n.Reaction) (x : n.Node) (new : Small) (sent : List Packet) (step : Step) (a b c : List Output) → IsReaction r new [] sent step →
     Gives (map plain_packet sent) [] a b → Gives [] (told x (plain_step step)) b c → Gives r.sends (told x r.step) a c
 gives_sent r x new sent step a b c came g k =

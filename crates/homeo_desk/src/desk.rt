@@ -7,7 +7,8 @@ ghost use Rattle.homeo_history.specs.Legal.{IsCallAt};
 ghost use Rattle.homeo_history.specs.Answers.{local_answer};
 ghost use Rattle.homeo_history.specs.HistoryView.{plain_answer};
 ghost use Rattle.homeo_nodes.specs.Nodes as n;
-ghost use Rattle.homeo_nodes.specs.Nodes.{of_past};
+ghost use Rattle.homeo_nodes.specs.Nodes.{asked, of_past};
+ghost use Rattle.homeo_nodes.specs.Small.{small, grown};
 ghost use Rattle.homeo_nodes.specs.Told.{told};
 ghost use Rattle.homeo_live.specs.LiveView.{plain_packet, plain_past, plain_step};
 ghost use Rattle.homeo_desk.specs.DeskView.{IsPaired};
@@ -169,16 +170,24 @@ impl Desk {
         ensures work { self.new.work ≡ self.old.work }
         ensures moves { OnOk result (IsMove (request.call ∷ []) [] self.old self.new outputs.old.items outputs.new.items) }
     {
-        match self.node.ask(request.call)? {
-            Step::Queued => {
-                self.callers.add(request)?;
-                self.serve(alloc, outputs)?;
-                Ok(())
-            }
-            _ => {
-                refuse(request, Why::Full, outputs)?;
-                Ok(())
-            }
+        if !self.queue(request.call)? {
+            refuse(request, Why::Full, outputs)?;
+            return Ok(());
+        }
+        self.callers.add(request)?;
+        self.serve(alloc, outputs)?;
+        Ok(())
+    }
+
+    /// Makes a call wait at the node, and says whether it does: not too many wait.
+    fn queue(&mut self, call: CallId) -> Result<bool, Memory>
+        requires { IsCallAt (plain_workload self.old.work) self.old.node.number call }
+        ensures node { OnOk result (self.new.node ≡ small (asked call (grown self.old.node)).node) }
+        ensures work { self.new.work ≡ self.old.work }
+    {
+        match self.node.ask(call)? {
+            Step::Queued => Ok(true),
+            _ => Ok(false),
         }
     }
 
@@ -256,14 +265,14 @@ impl Desk {
         if !self.take(alloc, Packet::Stop(breach), outputs)? {
             return Ok(false);
         }
+        let mut fits = true;
         let mut site = 0;
         for said in states {
-            if !self.take(alloc, Packet::State { round, site, said }, outputs)? {
-                return Ok(false);
-            }
+            let fit = self.take(alloc, Packet::State { round, site, said }, outputs)?;
+            fits = fits && fit;
             site += 1;
         }
-        Ok(true)
+        Ok(fits)
     }
 
     /// Sends again what others may still lack of the round. The desk stays.

@@ -22,7 +22,10 @@ use Rattle.homeo_desk.proofs.desk.Desk.ask.Goals as goal
 
 pub returns-in_ok-push-in-Answered-clause-moves : goal.returns-in_ok-push-in-Answered-clause-moves
 returns-in_ok-push-in-Answered-clause-moves c =
-    stays _ [] _ _ _ _ refl refl (gives_put _ _ _ _ (o.Again c.args.request.caller c.in_ok-copy-again.field-0) (ap (λ l. l.items) c.in_ok-push-in-Answered.ensures.ok) (in_nothing []) none)
+    stays _ [] _ _ _ _ refl refl (gives_put _ _ _ _ (o.Again c.args.request.caller c.in_ok-again-in-Answered.again) (ap (λ l. l.items) c.in_ok-push-in-Answered.ensures.ok) (in_nothing []) none)
 
 pub returns-in-Waits-clause-moves : goal.returns-in-Waits-clause-moves
 returns-in-Waits-clause-moves c = stays _ [] _ _ _ _ refl refl (gives_nothing [] [] _)
+
+pub returns-in_ok-refuse-in-Late-clause-moves : goal.returns-in_ok-refuse-in-Late-clause-moves
+returns-in_ok-refuse-in-Late-clause-moves c = stays _ [] _ _ _ _ refl refl c.in_ok-refuse-in-Late.ensures

@@ -16,7 +16,7 @@ use Rattle.homeo_live.specs.LiveView.{plain_packet, plain_past, IsReaction}
 use Rattle.homeo_desk.specs.Outputs.{Gives, none}
 use Rattle.homeo_desk.specs.declared.output.Output.TheVariants as o
 use Rattle.homeo_desk.proofs.Giving.{in_nothing, in_one, in_left, in_itself, gives_nothing, gives_put}
-use Rattle.homeo_desk.proofs.Moving.{stays, by_input, input_then, then, of_wider, gives_sent}
+use Rattle.homeo_desk.proofs.Moving.{stays, by_input, input_then, then, then_free, of_wider, gives_sent}
 use Rattle.homeo_desk.proofs.Resending.{mode_resent, choice_resent, past_resent, by_tick, tick_then}
 use Rattle.homeo_desk.proofs.desk.Desk.receive.Goals as goal
 
@@ -26,7 +26,12 @@ returns-then-round-clause-moves c =
     by_tick [] _ (of_past old.node.past) old old _ _ refl refl (past_resent old.node) c.in_ok-tell_left.ensures
 
 pub returns-in_ok-tell_stop-in-Want-Some-clause-moves : goal.returns-in_ok-tell_stop-in-Want-Some-clause-moves
-returns-in_ok-tell_stop-in-Want-Some-clause-moves c = ?
+returns-in_ok-tell_stop-in-Want-Some-clause-moves c =
+    let old = c.args.self.now in
+    let chosen = c.in-Want-Some.chosen in
+    let kept : old.node.decided ≡ Some chosen = search rules in
+    by_tick [] _ (n.Stop chosen ∷ []) old old _ _ refl refl (choice_resent old.node (Some chosen) kept) c.in_ok-tell_stop-in-Want-Some.ensures
 
 pub returns-in_ok-serve-in_default-clause-moves : goal.returns-in_ok-serve-in_default-clause-moves
-returns-in_ok-serve-in_default-clause-moves c = ?
+returns-in_ok-serve-in_default-clause-moves c =
+    then_free [] (plain_packet c.args.packet ∷ []) _ _ _ _ _ _ c.in_ok-fits-in_default.ensures.moves c.in_ok-serve-in_default.ensures.moves

@@ -16,7 +16,7 @@ use Rattle.homeo_live.specs.LiveView.{plain_packet, plain_past, IsReaction}
 use Rattle.homeo_desk.specs.Outputs.{Gives, none}
 use Rattle.homeo_desk.specs.declared.output.Output.TheVariants as o
 use Rattle.homeo_desk.proofs.Giving.{in_nothing, in_one, in_left, in_itself, gives_nothing, gives_put}
-use Rattle.homeo_desk.proofs.Moving.{stays, by_input, input_then, then, of_wider, gives_sent}
+use Rattle.homeo_desk.proofs.Moving.{stays, by_input, input_then, then, then_free, of_wider, gives_sent}
 use Rattle.homeo_desk.proofs.Resending.{mode_resent, choice_resent, past_resent, by_tick, tick_then}
 use Rattle.homeo_desk.proofs.desk.Desk.receive_left.Goals as goal
 
@@ -24,4 +24,4 @@ pub returns-then-past-round-clause-moves : goal.returns-then-past-round-clause-m
 returns-then-past-round-clause-moves c = stays [] _ _ _ _ _ refl refl (gives_nothing [] [] _)
 
 pub returns-clause-moves : goal.returns-clause-moves
-returns-clause-moves c = then [] _ [] _ _ _ _ _ _ c.in_ok-take_left-fits.ensures.moves (in_nothing _) c.in_ok-serve.ensures.moves
+returns-clause-moves c = then_free [] (of_past (Some (plain_past c.args.past))) _ _ _ _ _ _ c.in_ok-fits.ensures.moves c.in_ok-serve.ensures.moves

@@ -16,7 +16,7 @@ use Rattle.homeo_live.specs.LiveView.{plain_packet, plain_past, IsReaction}
 use Rattle.homeo_desk.specs.Outputs.{Gives, none}
 use Rattle.homeo_desk.specs.declared.output.Output.TheVariants as o
 use Rattle.homeo_desk.proofs.Giving.{in_nothing, in_one, in_left, in_itself, gives_nothing, gives_put}
-use Rattle.homeo_desk.proofs.Moving.{stays, by_input, input_then, then, of_wider, gives_sent}
+use Rattle.homeo_desk.proofs.Moving.{stays, by_input, input_then, then, then_free, of_wider, gives_sent}
 use Rattle.homeo_desk.proofs.Resending.{mode_resent, choice_resent, past_resent, by_tick, tick_then}
 use Rattle.homeo_desk.proofs.desk.Desk.serve.Goals as goal
 
@@ -24,7 +24,7 @@ pub loop-init : goal.loop-init
 loop-init c = record { work = refl; moves = stays [] [] _ _ _ _ refl refl (gives_nothing [] [] _) }
 
 pub loop-preserved : goal.loop-preserved
-loop-preserved c = record { work = search rules; moves = then [] [] [] _ _ _ _ _ _ c.loop.invariant.moves (in_nothing _) c.in_ok-serve_one.ensures.moves }
+loop-preserved c = record { work = search rules; moves = then_free [] [] _ _ _ _ _ _ c.loop.invariant.moves c.in_ok-serve_one.ensures.moves }
 
 pub returns-then-not-branch-clause-moves : goal.returns-then-not-branch-clause-moves
-returns-then-not-branch-clause-moves c = then [] [] [] _ _ _ _ _ _ c.loop.invariant.moves (in_nothing _) c.in_ok-serve_one.ensures.moves
+returns-then-not-branch-clause-moves c = then_free [] [] _ _ _ _ _ _ c.loop.invariant.moves c.in_ok-serve_one.ensures.moves

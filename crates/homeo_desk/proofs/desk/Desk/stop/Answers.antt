@@ -16,7 +16,7 @@ use Rattle.homeo_live.specs.LiveView.{plain_packet, plain_past, IsReaction}
 use Rattle.homeo_desk.specs.Outputs.{Gives, none}
 use Rattle.homeo_desk.specs.declared.output.Output.TheVariants as o
 use Rattle.homeo_desk.proofs.Giving.{in_nothing, in_one, in_left, in_itself, gives_nothing, gives_put}
-use Rattle.homeo_desk.proofs.Moving.{stays, by_input, input_then, then, of_wider, gives_sent}
+use Rattle.homeo_desk.proofs.Moving.{stays, by_input, came_at, input_then, then, of_wider, gives_sent}
 use Rattle.homeo_desk.proofs.Resending.{mode_resent, choice_resent, past_resent, by_tick, tick_then}
 use Rattle.homeo_desk.proofs.desk.Desk.stop.Goals as goal
 
@@ -27,6 +27,11 @@ pub returns-clause-moves : goal.returns-clause-moves
 unfolding definitions node_definitions
 returns-clause-moves c =
     let old = c.args.self.now in
-    let came : IsReaction (received (plain_workload old.work) (n.Stop c.args.breach) (grown old.node)) c.receive.new.self.node [] c.receive.new.packets.items c.in-Some.step = search rules in
-    by_input [] (n.Stop c.args.breach ∷ []) old _ _ _ (Came (n.Stop c.args.breach)) (Contains-push [] (n.Stop c.args.breach)) (c.in_ok-tell.ensures.node ∙ came.node) (search rules)
-    (gives_sent _ (grown old.node) _ _ _ _ _ _ came c.in_ok-let_out_all.ensures.gives (c.in_ok-tell.ensures.gives (grown old.node)))
+    let sent = c.receive.new.packets.items in
+    let packet : n.Packet = n.Stop c.args.breach in
+    let came : IsReaction (received (plain_workload old.work) packet (grown old.node)) c.receive.new.self.node [] sent c.in-Some.step =
+    came_at (λ w x. received w packet (grown x)) c.self.inside.node.work old.work c.self.inside.node.node old.node c.in_ok-step.field-0 c.in-Some.step c.receive.new.self.node c.new-sent.result.items sent
+    (search rules) (search rules) (search rules) c.in-Some.is c.in_ok-step.ensures.reaction in
+    let work : c.tell.new.self.work ≡ old.work = search rules in
+    by_input [] (packet ∷ []) old _ _ _ (Came packet) (Contains-push [] packet) (c.in_ok-tell.ensures.node ∙ came.node) work
+    (gives_sent _ (grown old.node) _ sent c.in-Some.step _ _ _ came c.in_ok-let_out_all.ensures.gives (c.in_ok-tell.ensures.gives (grown old.node)))

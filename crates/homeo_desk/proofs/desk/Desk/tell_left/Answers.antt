@@ -18,4 +18,4 @@ returns c =
     let kept : Some (plain_past c.in-Some.past.now) ≡ c.args.self.now.node.past = search rules in
     let same : of_past (Some (plain_past c.in_ok-copy.field-0)) ≡ of_past c.args.self.now.node.past = ap (λ q. of_past (Some q)) c.in_ok-copy.ensures ∙ ap of_past kept in
     gives_put _ _ _ _ (o.Left c.args.to c.in_ok-copy.field-0) (ap (λ l. l.items) c.in_ok-push.ensures.ok)
-    (subst (AreIn (of_past (Some (plain_past c.in_ok-copy.field-0)))) same (in_itself _)) none
+    (subst (AreIn (of_past (Some (plain_past c.in_ok-copy.field-0)))) same (in_itself (of_past (Some (plain_past c.in_ok-copy.field-0))))) none

@@ -1,4 +1,5 @@
-use Rattle.std.proofs.Common.{ap}
+use Rattle.std.proofs.Common.{ap, ◌∷◌, []}
+use Rattle.homeo_nodes.specs.Nodes as n
 use Rattle.homeo_live.specs.declared.packet.Packet.TheVariants as packet
 use Rattle.homeo_live.specs.Key.{definitions}
 use Rattle.homeo_desk.specs.declared.output.Output.TheVariants as o
@@ -13,4 +14,4 @@ returns-then-to-number c = gives_nothing _ _ _
 pub returns : goal.returns
 unfolding definitions
 returns c =
-    gives_put _ _ _ _ (o.Packet (to.Site c.args.to) (packet.Stop c.args.chosen)) (ap (λ l. l.items) c.in_ok-push.ensures.ok) (in_itself _) none
+    gives_put _ _ _ _ (o.Packet (to.Site c.args.to) (packet.Stop c.args.chosen)) (ap (λ l. l.items) c.in_ok-push.ensures.ok) (in_itself (n.Stop c.args.chosen ∷ [])) none
