@@ -1,1 +1,4 @@
+pub mod Giving
 pub mod Lists
+pub mod Moving
+pub mod Resending

@@ -1,2 +1,3 @@
 pub mod DeskView
-pub mod LetOut
+pub mod Moves
+pub mod Outputs

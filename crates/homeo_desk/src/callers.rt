@@ -1,9 +1,11 @@
 //! What a desk keeps beside its node.
 
-ghost use Rattle.std.specs.Prelude.{◌≡◌, ◌++◌, ◌∷◌, [], drop, length, IfOk, OnOk};
+ghost use Rattle.std.specs.Prelude.{◌≡◌, ◌++◌, ◌∷◌, [], drop, length, map, IfOk, IsTrue, OnOk};
+ghost use Rattle.homeo_history.specs.HistoryView.{plain_answer};
+ghost use Rattle.homeo_desk.specs.Outputs.{Gives, plain_path};
 
 use crate::answered::Answered;
-use crate::output::{Answer, Output, Request};
+use crate::output::{Answer, Output, Path, Request};
 use crate::places::Places;
 use homeo_history::Answer as Made;
 use homeo_live::LiveNode;
@@ -132,7 +134,8 @@ impl Callers {
         answers: List<Made>,
         outputs: &mut List<Output>,
     ) -> Result<(), Memory>
-        ensures { OnOk result (self.new.queue.items ≡ drop (length answers.items) self.old.queue.items) }
+        ensures queue { OnOk result (self.new.queue.items ≡ drop (length answers.items) self.old.queue.items) }
+        ensures gives { OnOk result (Gives [] (map plain_answer answers.items) outputs.old.items outputs.new.items) }
     {
         for made in answers.into_vec() {
             self.answer(alloc, made, outputs)?;
@@ -148,13 +151,30 @@ impl Callers {
         made: Made,
         outputs: &mut List<Output>,
     ) -> Result<(), Memory>
-        ensures { self.new.queue.items ≡ drop 1 self.old.queue.items }
+        ensures queue { self.new.queue.items ≡ drop 1 self.old.queue.items }
+        ensures gives { OnOk result (Gives [] (plain_answer made ∷ []) outputs.old.items outputs.new.items) }
     {
         let path = self.places.next(made.round, made.path);
-        let Some(request) = self.queue.pop_front() else {
-            return Ok(());
-        };
-        if request.call != call_of(&made) {
+        match self.queue.pop_front() {
+            Some(request) => self.answer_request(alloc, request, made, path, outputs),
+            None => Ok(()),
+        }
+    }
+
+    /// Answers a request, if it is its call that was made.
+    fn answer_request(
+        &mut self,
+        alloc: Global,
+        request: Request,
+        made: Made,
+        path: Path,
+        outputs: &mut List<Output>,
+    ) -> Result<(), Memory>
+        requires { plain_path path ≡ made.path }
+        ensures queue { self.new.queue.items ≡ self.old.queue.items }
+        ensures gives { OnOk result (Gives [] (plain_answer made ∷ []) outputs.old.items outputs.new.items) }
+    {
+        if !is_of(request.call, &made) {
             return Ok(());
         }
         let answer = Answer {
@@ -165,14 +185,15 @@ impl Callers {
             path,
         };
         self.answered.keep(answer.copy(alloc)?);
-        outputs.push(Output::Answer(request.caller, answer))
+        outputs.push(Output::Answer(request.caller, answer))?;
+        Ok(())
     }
 }
 
-/// The call that was made.
-fn call_of(made: &Made) -> CallId {
-    CallId {
-        client: made.client,
-        seq: made.seq,
-    }
+/// Whether it is this call that was made.
+fn is_of(call: CallId, made: &Made) -> bool
+    ensures client { IsTrue result → call.client ≡ made.now.client }
+    ensures seq { IsTrue result → call.seq ≡ made.now.seq }
+{
+    call.client == made.client && call.seq == made.seq
 }

@@ -1,13 +1,19 @@
 //! A desk.
 
-ghost use Rattle.std.specs.Prelude.{◌≡◌, ◌<◌, ◌∷◌, [], length, map, IfOk, IfSome, OnOk};
+ghost use Rattle.std.specs.Prelude.{◌≡◌, ◌<◌, ◌≤◌, ◌∷◌, ◌⊎◌, [], Some, length, map, Contains, IfOk, IfSome, OnOk};
 ghost use Rattle.homeo_syntax.specs.SourceView.{plain_workload};
 ghost use Rattle.homeo_plan.specs.Planned.{sites_of};
 ghost use Rattle.homeo_history.specs.Legal.{IsCallAt};
-ghost use Rattle.homeo_nodes.specs.Nodes.{resent};
-ghost use Rattle.homeo_nodes.specs.Small.{grown};
-ghost use Rattle.homeo_live.specs.LiveView.{plain_packet};
+ghost use Rattle.homeo_history.specs.Answers.{local_answer};
+ghost use Rattle.homeo_history.specs.HistoryView.{plain_answer};
+ghost use Rattle.homeo_nodes.specs.Nodes as n;
+ghost use Rattle.homeo_nodes.specs.Nodes.{asked, of_past};
+ghost use Rattle.homeo_nodes.specs.Small.{small, grown};
+ghost use Rattle.homeo_nodes.specs.Told.{told};
+ghost use Rattle.homeo_live.specs.LiveView.{plain_packet, plain_past, plain_step};
 ghost use Rattle.homeo_desk.specs.DeskView.{IsPaired};
+ghost use Rattle.homeo_desk.specs.Moves.{IsMove};
+ghost use Rattle.homeo_desk.specs.Outputs.{Gives};
 
 use crate::callers::{Callers, Standing};
 use crate::output::{Output, Request, To, Why};
@@ -136,14 +142,19 @@ impl Desk {
     ) -> Result<(), Memory>
         requires { IsCallAt (plain_workload self.old.work) self.old.node.number request.call }
         ensures work { self.new.work ≡ self.old.work }
+        ensures moves { OnOk result (IsMove (request.call ∷ []) [] self.old self.new outputs.old.items outputs.new.items) }
     {
         match self.callers.standing(&request) {
             Standing::Answered(answer) => {
                 let again = answer.copy(alloc)?;
-                outputs.push(Output::Again(request.caller, again))
+                outputs.push(Output::Again(request.caller, again))?;
+                Ok(())
             }
             Standing::Waits => Ok(()),
-            Standing::Late => outputs.push(refusal(request, Why::Late)),
+            Standing::Late => {
+                refuse(request, Why::Late, outputs)?;
+                Ok(())
+            }
             Standing::New => self.take_on(alloc, request, outputs),
         }
     }
@@ -157,13 +168,26 @@ impl Desk {
     ) -> Result<(), Memory>
         requires { IsCallAt (plain_workload self.old.work) self.old.node.number request.call }
         ensures work { self.new.work ≡ self.old.work }
+        ensures moves { OnOk result (IsMove (request.call ∷ []) [] self.old self.new outputs.old.items outputs.new.items) }
     {
-        match self.node.ask(request.call)? {
-            Step::Queued => {
-                self.callers.add(request)?;
-                self.serve(alloc, outputs)
-            }
-            _ => outputs.push(refusal(request, Why::Full)),
+        if !self.queue(request.call)? {
+            refuse(request, Why::Full, outputs)?;
+            return Ok(());
+        }
+        self.callers.add(request)?;
+        self.serve(alloc, outputs)?;
+        Ok(())
+    }
+
+    /// Makes a call wait at the node, and says whether it does: not too many wait.
+    fn queue(&mut self, call: CallId) -> Result<bool, Memory>
+        requires { IsCallAt (plain_workload self.old.work) self.old.node.number call }
+        ensures node { OnOk result (self.new.node ≡ small (asked call (grown self.old.node)).node) }
+        ensures work { self.new.work ≡ self.old.work }
+    {
+        match self.node.ask(call)? {
+            Step::Queued => Ok(true),
+            _ => Ok(false),
         }
     }
 
@@ -181,6 +205,7 @@ impl Desk {
         outputs: &mut List<Output>,
     ) -> Result<bool, Memory>
         ensures work { self.new.work ≡ self.old.work }
+        ensures moves { OnOk result (IsMove [] (plain_packet packet ∷ []) self.old self.new outputs.old.items outputs.new.items) }
     {
         if packet.round() != self.node.round() {
             self.tell_left(alloc, from, packet.round(), outputs)?;
@@ -212,6 +237,7 @@ impl Desk {
         outputs: &mut List<Output>,
     ) -> Result<bool, Memory>
         ensures work { self.new.work ≡ self.old.work }
+        ensures moves { OnOk result (IsMove [] (of_past (Some (plain_past past))) self.old self.new outputs.old.items outputs.new.items) }
     {
         if past.breach.round != self.node.round() {
             return Ok(true);
@@ -229,20 +255,24 @@ impl Desk {
         outputs: &mut List<Output>,
     ) -> Result<bool, Memory>
         ensures work { self.new.work ≡ self.old.work }
+        ensures moves { OnOk result (IsMove [] (of_past (Some (plain_past past))) self.old self.new outputs.old.items outputs.new.items) }
     {
+        if past.states.len() != self.sites() as usize {
+            return Ok(false);
+        }
         let Past { breach, states } = past;
         let round = breach.round;
         if !self.take(alloc, Packet::Stop(breach), outputs)? {
             return Ok(false);
         }
+        let mut fits = true;
         let mut site = 0;
         for said in states {
-            if !self.take(alloc, Packet::State { round, site, said }, outputs)? {
-                return Ok(false);
-            }
-            site = u32::saturating_add(site, 1);
+            let fit = self.take(alloc, Packet::State { round, site, said }, outputs)?;
+            fits = fits && fit;
+            site += 1;
         }
-        Ok(true)
+        Ok(fits)
     }
 
     /// Sends again what others may still lack of the round. The desk stays.
@@ -250,7 +280,9 @@ impl Desk {
     /// # Errors
     ///
     /// `Memory` when out of memory. Some outputs may have been given.
-    pub fn tick(&self, alloc: Global, outputs: &mut List<Output>) -> Result<(), Memory> {
+    pub fn tick(&self, alloc: Global, outputs: &mut List<Output>) -> Result<(), Memory>
+        ensures moves { OnOk result (IsMove [] [] self.now self.now outputs.old.items outputs.new.items) }
+    {
         let count = sent_by(self.node.mode());
         if count == 0 {
             return Ok(());
@@ -263,38 +295,62 @@ impl Desk {
         Ok(())
     }
 
-    /// The site of the round's arbiter.
+    /// How many sites there are, from 1 to 16.
     #[tactic(auto, using(homeo_plan::proofs::Policy::some_sites))]
-    fn arbiter(&self) -> u32
-        ensures { result < sites_of (plain_workload self.now.work) }
+    fn sites(&self) -> u32
+        ensures count { result ≡ sites_of (plain_workload self.now.work) }
+        ensures some { 0 < result }
+        ensures few { result ≤ 16 }
     {
         let w = self.node.compiled().workload();
         // the workload is accepted
         let _clients = client_count(w);
-        let sites = site_count(w);
-        (self.node.round() % u64::from(sites)) as u32
+        site_count(w)
     }
 
-    /// Lets out a packet to those that it is for; the desk itself is none of them.
-    fn let_out(&self, packet: Packet, outputs: &mut List<Output>) -> Result<(), Memory> {
-        match &packet {
+    /// The site of the round's arbiter.
+    fn arbiter(&self) -> u32
+        ensures { result < sites_of (plain_workload self.now.work) }
+    {
+        (self.node.round() % u64::from(self.sites())) as u32
+    }
+
+    /// Those that a packet is for; there are none where that is the node itself.
+    fn receiver(&self, packet: &Packet) -> Option<To> {
+        match packet {
             Packet::Want(_) => {
                 let arbiter = self.arbiter();
                 if arbiter == self.node.number() {
-                    return Ok(());
+                    return None;
                 }
-                outputs.push(Output::Packet(To::Site(arbiter), packet))
+                Some(To::Site(arbiter))
             }
-            _ => outputs.push(Output::Packet(To::Others, packet)),
+            _ => Some(To::Others),
+        }
+    }
+
+    /// Lets out a packet to those that it is for.
+    fn let_out(&self, packet: Packet, outputs: &mut List<Output>) -> Result<(), Memory>
+        ensures { OnOk result (Gives (plain_packet packet ∷ []) [] outputs.old.items outputs.new.items) }
+    {
+        match self.receiver(&packet) {
+            Some(to) => {
+                outputs.push(Output::Packet(to, packet))?;
+                Ok(())
+            }
+            None => Ok(()),
         }
     }
 
     /// Tells a site which call was chosen to close the round.
-    fn tell_stop(&self, to: u32, chosen: Breach, outputs: &mut List<Output>) -> Result<(), Memory> {
+    fn tell_stop(&self, to: u32, chosen: Breach, outputs: &mut List<Output>) -> Result<(), Memory>
+        ensures { OnOk result (Gives (n.Stop chosen ∷ []) [] outputs.old.items outputs.new.items) }
+    {
         if to == self.node.number() {
             return Ok(());
         }
-        outputs.push(Output::Packet(To::Site(to), Packet::Stop(chosen)))
+        outputs.push(Output::Packet(To::Site(to), Packet::Stop(chosen)))?;
+        Ok(())
     }
 
     /// Tells a site how the node closed this round, if it is the one that it stopped in last.
@@ -304,14 +360,17 @@ impl Desk {
         to: u32,
         round: u64,
         outputs: &mut List<Output>,
-    ) -> Result<(), Memory> {
+    ) -> Result<(), Memory>
+        ensures { OnOk result (Gives (of_past self.now.node.past) [] outputs.old.items outputs.new.items) }
+    {
         let Some(past) = self.node.past() else {
             return Ok(());
         };
         if past.breach.round != round || to == self.node.number() {
             return Ok(());
         }
-        outputs.push(Output::Left(to, past.copy(alloc)?))
+        outputs.push(Output::Left(to, past.copy(alloc)?))?;
+        Ok(())
     }
 
     /// Makes the node take a packet, and then its own stop, if it sends one.
@@ -322,6 +381,7 @@ impl Desk {
         outputs: &mut List<Output>,
     ) -> Result<bool, Memory>
         ensures work { self.new.work ≡ self.old.work }
+        ensures moves { OnOk result (IsMove [] (plain_packet packet ∷ []) self.old self.new outputs.old.items outputs.new.items) }
     {
         let mut sent = List::new(alloc);
         let Some(step) = self.node.receive(alloc, packet, &mut sent)? else {
@@ -330,7 +390,10 @@ impl Desk {
         let chosen = self.let_out_all(sent, outputs)?;
         self.tell(alloc, step, outputs)?;
         match chosen {
-            Some(breach) => self.stop(alloc, breach, outputs),
+            Some(breach) => {
+                let fits = self.stop(alloc, breach, outputs)?;
+                Ok(fits)
+            }
             None => Ok(true),
         }
     }
@@ -343,6 +406,7 @@ impl Desk {
         outputs: &mut List<Output>,
     ) -> Result<bool, Memory>
         ensures work { self.new.work ≡ self.old.work }
+        ensures moves { OnOk result (IsMove [] (n.Stop breach ∷ []) self.old self.new outputs.old.items outputs.new.items) }
     {
         let mut sent = List::new(alloc);
         let Some(step) = self.node.receive(alloc, Packet::Stop(breach), &mut sent)? else {
@@ -358,12 +422,13 @@ impl Desk {
         &self,
         sent: List<Packet>,
         outputs: &mut List<Output>,
-    ) -> Result<Option<Breach>, Memory> {
+    ) -> Result<Option<Breach>, Memory>
+        ensures gives { OnOk result (Gives (map plain_packet sent.items) [] outputs.old.items outputs.new.items) }
+        ensures chosen { IfOk result (λ o. IfSome o (λ b. Contains (map plain_packet sent.items) (n.Stop b))) }
+    {
         let mut chosen = None;
         for packet in sent.into_vec() {
-            if let Packet::Stop(breach) = &packet {
-                chosen = Some(*breach);
-            }
+            chosen = stop_in(&packet, chosen);
             self.let_out(packet, outputs)?;
         }
         Ok(chosen)
@@ -372,9 +437,14 @@ impl Desk {
     /// Answers the requests whose calls were made by the end of the round, if it has ended: they are the first that wait.
     fn tell(&mut self, alloc: Global, step: Step, outputs: &mut List<Output>) -> Result<(), Memory>
         ensures work { self.new.work ≡ self.old.work }
+        ensures node { self.new.node ≡ self.old.node }
+        ensures gives { (x : n.Node) → OnOk result (Gives [] (told x (plain_step step)) outputs.old.items outputs.new.items) }
     {
         match step {
-            Step::Closed(answers) => self.callers.answer_all(alloc, answers, outputs),
+            Step::Closed(answers) => {
+                self.callers.answer_all(alloc, answers, outputs)?;
+                Ok(())
+            }
             _ => Ok(()),
         }
     }
@@ -382,6 +452,7 @@ impl Desk {
     /// Goes on with the requests that wait, one after another, while the node runs.
     fn serve(&mut self, alloc: Global, outputs: &mut List<Output>) -> Result<(), Memory>
         ensures work { self.new.work ≡ self.old.work }
+        ensures moves { OnOk result (IsMove [] [] self.old self.new outputs.old.items outputs.new.items) }
     {
         for _ in 0..MOST_WAITING {
             if !self.serve_one(alloc, outputs)? {
@@ -394,11 +465,14 @@ impl Desk {
     /// Goes on with the first request that waits, and says whether it may go on with the next.
     fn serve_one(&mut self, alloc: Global, outputs: &mut List<Output>) -> Result<bool, Memory>
         ensures work { self.new.work ≡ self.old.work }
+        ensures moves { OnOk result (IsMove [] [] self.old self.new outputs.old.items outputs.new.items) }
     {
+        let site = self.node.number();
+        let round = self.node.round();
         let mut sent = List::new(alloc);
         match self.node.serve(alloc, &mut sent)? {
             Step::Kept(call, prints) => {
-                let made = self.kept(call, prints);
+                let made = kept(site, round, call, prints);
                 self.callers.answer(alloc, made, outputs)?;
                 Ok(true)
             }
@@ -410,21 +484,10 @@ impl Desk {
         }
     }
 
-    /// The answer to a call that the node has made alone.
-    fn kept(&self, call: CallId, prints: Prints) -> Made {
-        Made {
-            client: call.client,
-            seq: call.seq,
-            site: self.node.number(),
-            round: self.node.round(),
-            path: Way::Local,
-            prints,
-        }
-    }
-
     /// Sends the want by which the node waits to the arbiter, which may be the node itself.
     fn want(&mut self, alloc: Global, outputs: &mut List<Output>) -> Result<(), Memory>
         ensures work { self.new.work ≡ self.old.work }
+        ensures moves { OnOk result (IsMove [] [] self.old self.new outputs.old.items outputs.new.items) }
     {
         let Mode::Waiting(breach) = self.node.mode() else {
             return Ok(());
@@ -433,7 +496,34 @@ impl Desk {
             self.take(alloc, Packet::Want(breach), outputs)?;
             return Ok(());
         }
-        self.let_out(Packet::Want(breach), outputs)
+        self.let_out(Packet::Want(breach), outputs)?;
+        Ok(())
+    }
+}
+
+/// The call by which a packet stops a round, or else this one.
+#[tactic(auto, unfolding(homeo_live::specs::Key::definitions))]
+fn stop_in(packet: &Packet, before: Option<Breach>) -> Option<Breach>
+    ensures { IfSome result (λ b. (plain_packet packet.now ≡ n.Stop b) ⊎ (before ≡ Some b)) }
+{
+    match packet {
+        Packet::Stop(breach) => Some(*breach),
+        _ => before,
+    }
+}
+
+/// The answer to a call that its site has made alone.
+#[tactic(auto, unfolding(homeo_history::specs::Key::definitions))]
+fn kept(site: u32, round: u64, call: CallId, prints: Prints) -> Made
+    ensures { plain_answer result ≡ local_answer round site (record { call = call; prints = prints.items }) }
+{
+    Made {
+        client: call.client,
+        seq: call.seq,
+        site,
+        round,
+        path: Way::Local,
+        prints,
     }
 }
 
@@ -446,7 +536,10 @@ fn sent_by(mode: Mode) -> usize {
     }
 }
 
-/// A request is refused.
-fn refusal(request: Request, why: Why) -> Output {
-    Output::Refusal(request.caller, request.number, why)
+/// Refuses a request.
+fn refuse(request: Request, why: Why, outputs: &mut List<Output>) -> Result<(), Memory>
+    ensures { OnOk result (Gives [] [] outputs.old.items outputs.new.items) }
+{
+    outputs.push(Output::Refusal(request.caller, request.number, why))?;
+    Ok(())
 }

@@ -1,5 +1,8 @@
 //! Where calls stand in the history.
 
+ghost use Rattle.std.specs.Prelude.{◌≡◌};
+ghost use Rattle.homeo_desk.specs.Outputs.{plain_path};
+
 use crate::output::Path;
 use homeo_history::Path as Way;
 
@@ -25,7 +28,9 @@ impl Places {
     }
 
     /// Where the next call stands that was made in this round and in this way.
-    pub(crate) fn next(&mut self, round: u64, way: Way) -> Path {
+    pub(crate) fn next(&mut self, round: u64, way: Way) -> Path
+        ensures { plain_path result ≡ way }
+    {
         match way {
             Way::Cleanup(broken) => Path::Closing(broken),
             Way::Local => {

@@ -1,0 +1,72 @@
+-- What a desk sends again, or by itself.
+use Rattle.std.proofs.Common.{◌≡◌, List, [], ◌∷◌, ◌++◌, ℕ, suc, ◌+◌, length, arith, map, take, drop, refl, sym, ap, subst, ◌∙◌}
+use Rattle.std.proofs.lemmas.List.{map-append, take-append-drop}
+use Rattle.std.proofs.lemmas.List.Elements.{Contains-append_left, Contains-push}
+use Rattle.std.proofs.Common.{⊎_elim}
+use Rattle.std.specs.Prelude.{None, IfSome, ◌⊎◌}
+use Rattle.homeo_live.specs.declared.packet.Packet.{Packet}
+use Rattle.homeo_live.specs.LiveView.{plain_packet}
+use Rattle.std.specs.Prelude.{Option, Some, Contains}
+use Rattle.homeo_meaning.specs.declared.call.CallId.{CallId}
+use Rattle.homeo_nodes.specs.declared.breach.Breach.{Breach}
+use Rattle.homeo_nodes.specs.declared.breach.Mode.{Mode}
+use Rattle.homeo_nodes.specs.Key.{definitions}
+use Rattle.homeo_nodes.specs.Nodes as n
+use Rattle.homeo_nodes.specs.Nodes.{Ticked, of_mode, of_choice, of_past, of_states, resent}
+use Rattle.homeo_nodes.specs.Small.{Small, grown}
+use Rattle.homeo_desk.specs.declared.output.Output.{Output}
+use Rattle.homeo_desk.specs.DeskView.{DeskValue}
+use Rattle.homeo_desk.specs.Moves.{IsMove}
+use Rattle.homeo_desk.specs.Outputs.{AreIn, Gives}
+use Rattle.homeo_desk.proofs.Giving.{in_itself, in_nothing, in_left, in_right, gives_wider}
+use Rattle.homeo_desk.proofs.Moving.{by_input, input_then}
+
+pub mode_resent : (x : Small) (m : Mode) → x.mode ≡ m → AreIn (of_mode (grown x) m) (resent (grown x))
+unfolding definitions
+mode_resent x m e = in_left (of_mode (grown x) m) (of_choice x.decided ++ of_past x.past) (of_mode (grown x) x.mode)
+    (subst (λ z. AreIn (of_mode (grown x) m) (of_mode (grown x) z)) (sym e) (in_itself (of_mode (grown x) m)))
+
+pub choice_resent : (x : Small) (o : Option Breach) → x.decided ≡ o → AreIn (of_choice o) (resent (grown x))
+unfolding definitions
+choice_resent x o e = in_right (of_choice o) (of_mode (grown x) x.mode) (of_choice x.decided ++ of_past x.past)
+    (in_left (of_choice o) (of_past x.past) (of_choice x.decided) (subst (λ z. AreIn (of_choice o) (of_choice z)) (sym e) (in_itself (of_choice o))))
+
+pub past_resent : (x : Small) → AreIn (of_past x.past) (resent (grown x))
+unfolding definitions
+past_resent x = in_right (of_past x.past) (of_mode (grown x) x.mode) (of_choice x.decided ++ of_past x.past)
+    (in_right (of_past x.past) (of_choice x.decided) (of_past x.past) (in_itself (of_past x.past)))
+
+-- the node stays, and gives some of what it would send again
+pub by_tick : (calls : List CallId) (ps qs : List n.Packet) (old new : DeskValue) (before after : List Output) → new.node ≡ old.node → new.work ≡ old.work →
+    AreIn qs (resent (grown old.node)) → Gives qs [] before after → IsMove calls ps old new before after
+unfolding definitions
+by_tick calls ps qs old new before after node work i g =
+    by_input calls ps old new before after Ticked tt node work (gives_wider qs (resent (grown old.node)) [] before after i g)
+
+-- the node stays, and is given some of what it would send again
+pub tick_then : (calls : List CallId) (ps qs : List n.Packet) (old new newer : DeskValue) (x y z : List Output) → new.node ≡ old.node → new.work ≡ old.work →
+    AreIn qs (resent (grown old.node)) → Gives [] [] x y → IsMove calls qs new newer y z → IsMove calls ps old newer x z
+unfolding definitions
+tick_then calls ps qs old new newer x y z node work i g k =
+    input_then calls ps qs old new newer x y z Ticked tt node work (gives_wider [] (resent (grown old.node)) [] x y (in_nothing (resent (grown old.node))) g)
+    (in_right qs ps (resent (grown old.node)) i) k
+
+pub first_in : (k : ℕ) (xs : List Packet) (ps : List n.Packet) → map plain_packet xs ≡ ps → AreIn (map plain_packet (take k xs)) ps
+first_in k xs ps e p h =
+    subst (λ l. Contains l p) (sym (map-append plain_packet (take k xs) (drop k xs)) ∙ ap (map plain_packet) (take-append-drop k xs) ∙ e)
+    (Contains-append_left (map plain_packet (take k xs)) (map plain_packet (drop k xs)) p h)
+
+-- ---- the stop that a node has sent
+pub stop_more : (ps : List n.Packet) (p : n.Packet) (before after : Option Breach) → IfSome before (λ b. Contains ps (n.Stop b)) →
+    IfSome after (λ b. (p ≡ n.Stop b) ⊎ (before ≡ Some b)) → IfSome after (λ b. Contains (ps ++ p ∷ []) (n.Stop b))
+stop_more ps p before None h i = tt
+stop_more ps p before (Some b) h i =
+    ⊎_elim (λ e. subst (Contains (ps ++ p ∷ [])) e (Contains-push ps p))
+    (λ e. Contains-append_left ps (p ∷ []) (n.Stop b) (let g : IfSome (Some b) (λ c. Contains ps (n.Stop c)) = subst (λ o. IfSome o (λ c. Contains ps (n.Stop c))) e h in g)) i
+
+-- ---- what all sites have said, one site more
+pub states_more : (round k : ℕ) (states : List n.Said) (said : n.Said) → of_states round k (states ++ said ∷ []) ≡ of_states round k states ++ n.State round (k + length states) said ∷ []
+states_more round k [] said = ap (λ j. n.State round j said ∷ []) (let same : k ≡ k + 0 = omega arith in same)
+states_more round k (first ∷ states) said =
+    ap (λ l. n.State round k first ∷ l) (states_more round (suc k) states said
+    ∙ ap (λ j. of_states round (suc k) states ++ n.State round j said ∷ []) (let same : suc k + length states ≡ k + length (first ∷ states) = omega arith in same))

@@ -1,0 +1,41 @@
+use Rattle.std.proofs.Common.{rules, arith, ◌≡◌, ◌∷◌, [], ◌++◌, refl, ap, subst, sym, ◌∙◌}
+use Rattle.std.specs.Prelude.{Contains, Some}
+use Rattle.std.proofs.lemmas.List.Elements.{Contains-append_right, Contains-push}
+use Rattle.homeo_syntax.specs.SourceView.{plain_workload}
+use Rattle.homeo_history.specs.Answers.{local_answer}
+use Rattle.homeo_history.specs.HistoryView.{plain_answer}
+use Rattle.homeo_nodes.specs.declared.breach.Mode.TheVariants.{Waiting}
+use Rattle.homeo_nodes.specs.Key.{definitions as node_definitions}
+use Rattle.homeo_nodes.specs.Nodes as n
+use Rattle.homeo_nodes.specs.Nodes.{Came, Served, Asked, received, served, asked, of_past, of_states}
+use Rattle.homeo_nodes.specs.Small.{grown}
+use Rattle.homeo_nodes.specs.Told.{told}
+use Rattle.homeo_live.specs.declared.packet.Packet.TheVariants as packet
+use Rattle.homeo_live.specs.declared.packet.Step.TheVariants as step
+use Rattle.homeo_live.specs.Key.{definitions}
+use Rattle.homeo_live.specs.LiveView.{plain_packet, plain_past, IsReaction}
+use Rattle.homeo_desk.specs.Outputs.{Gives, none}
+use Rattle.homeo_desk.specs.declared.output.Output.TheVariants as o
+use Rattle.homeo_desk.proofs.Giving.{in_nothing, in_one, in_left, in_itself, gives_nothing, gives_put, gives_then}
+use Rattle.homeo_desk.proofs.Moving.{stays, by_input, input_then, then, of_wider, gives_sent}
+use Rattle.homeo_desk.proofs.Resending.{mode_resent, choice_resent, past_resent, by_tick, tick_then}
+use Rattle.homeo_desk.proofs.desk.Desk.take_on.Goals as goal
+
+pub returns-then-not-branch-clause-moves : goal.returns-then-not-branch-clause-moves
+unfolding definitions node_definitions
+returns-then-not-branch-clause-moves c =
+    let old = c.args.self.now in
+    let call = c.args.request.call in
+    let r = asked call (grown old.node) in
+    by_input (call ∷ []) [] old _ _ _ (Asked call) (Contains-push [] call) (search rules) (search rules)
+    (gives_then [] r.sends [] (told (grown old.node) r.step) _ _ _ c.in_ok-refuse.ensures (gives_nothing r.sends (told (grown old.node) r.step) _))
+
+pub returns-clause-moves : goal.returns-clause-moves
+unfolding definitions node_definitions
+returns-clause-moves c =
+    let old = c.args.self.now in
+    let call = c.args.request.call in
+    let r = asked call (grown old.node) in
+    input_then (call ∷ []) [] [] old _ _ _ _ _ (Asked call) (Contains-push [] call) (search rules) (search rules)
+    (gives_nothing r.sends (told (grown old.node) r.step) _) (in_nothing ([] ++ r.sends))
+    (of_wider [] (call ∷ []) [] [] _ _ _ _ (λ k h. let lt = h.1 in absurd (omega arith)) (in_nothing []) c.in_ok-serve.ensures.moves)

@@ -1,0 +1,48 @@
+-- What a desk does, as inputs of its node.
+use Rattle.std.specs.Prelude.{◌≡◌, List, [], ◌∷◌, ◌++◌, Contains}
+use Rattle.homeo_syntax.specs.Source as s
+use Rattle.homeo_syntax.specs.SourceView.{plain_workload}
+use Rattle.homeo_meaning.specs.declared.call.CallId.{CallId}
+use Rattle.homeo_history.specs.Answers as h
+use Rattle.homeo_nodes.specs.Nodes as n
+use Rattle.homeo_nodes.specs.Nodes.{Reaction, Input, Asked, Served, Came, Ticked, reaction}
+use Rattle.homeo_nodes.specs.Small.{Small, small, grown, small_after}
+use Rattle.homeo_nodes.specs.Told.{told}
+use Rattle.homeo_desk.specs.declared.output.Output.{Output}
+use Rattle.homeo_desk.specs.DeskView.{DeskValue}
+use Rattle.homeo_desk.specs.Outputs.{Gives}
+
+-- ---- what inputs make of a node, one after another
+abbrev pub reacts : s.Workload → Input → Small → Reaction
+reacts w input x = reaction w input (grown x)
+
+abbrev pub sent_after : s.Workload → List Input → Small → List n.Packet
+sent_after w [] x = []
+sent_after w (input ∷ inputs) x = (reacts w input x).sends ++ sent_after w inputs (small (reacts w input x).node)
+
+abbrev pub told_after : s.Workload → List Input → Small → List h.Answer
+told_after w [] x = []
+told_after w (input ∷ inputs) x = told (grown x) (reacts w input x).step ++ told_after w inputs (small (reacts w input x).node)
+
+-- a call is one of these; a packet is one of these
+abbrev pub IsOf : List CallId → List n.Packet → Input → Type 0
+IsOf calls packets (Asked call) = Contains calls call
+IsOf calls packets Served = Unit {0}
+IsOf calls packets (Came packet) = Contains packets packet
+IsOf calls packets Ticked = Unit {0}
+
+-- each is of these calls, and of these packets or of those that the node has sent by the inputs before it
+abbrev pub AreOf : s.Workload → List CallId → List n.Packet → List Input → Small → Type 0
+AreOf w calls packets [] x = Unit {0}
+AreOf w calls packets (input ∷ inputs) x =
+    IsOf calls packets input × AreOf w calls (packets ++ (reacts w input x).sends) inputs (small (reacts w input x).node)
+
+-- ---- a move of a desk, to which these calls and packets were given
+-- By some inputs its node becomes what they make of it, and it gives packets of those that the node sends by them, and what the node
+-- answers by them. The workload stays.
+pub record IsMove (calls : List CallId) (packets : List n.Packet) (old new : DeskValue) (before after : List Output) : Type 0 where
+  pub inputs : List Input
+  pub are_of : AreOf (plain_workload old.work) calls packets inputs old.node
+  pub node : new.node ≡ small_after (plain_workload old.work) inputs old.node
+  pub gives : Gives (sent_after (plain_workload old.work) inputs old.node) (told_after (plain_workload old.work) inputs old.node) before after
+  pub work : new.work ≡ old.work
