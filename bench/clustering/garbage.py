@@ -10,12 +10,12 @@ import json
 import random
 import re
 
-from clustering.process import Ended, written
+from clustering.process import Ended, Process, written
 from clustering.run import Run
 from judging.report import Illegal
 
-# How often a node is begun again with its snapshot: once in so many lines.
-AGAIN = 40
+# How often a node is begun again with its snapshot: once in so many lines; and then with how many that are wrong.
+AGAIN, WRONG = 40, 4
 # How often something that is real happens meanwhile, and the lines that are kept.
 REAL, MOST_LINES = 0.5, 40
 MALFORMED = 12
@@ -188,6 +188,24 @@ class Fuzz:
         if self.state(runner, [])[1] != state:
             raise Illegal(f"a node begun with {state} is {self.state(runner, [])[1]}")
         self.counts["begun again"] += 1
+        for _ in range(WRONG):
+            self.begin_wrong(runner)
+
+    def begin_wrong(self, runner):
+        """A node that is begun with something else than its snapshot lives too, whatever it says of that."""
+        process = Process(runner.program, runner.text)
+        init = json.loads(runner.init())
+        for _ in range(self.random.randint(1, 3)):
+            init = self.garbage.changed(init, self.random.choice([it for it in places_in(init) if it]))
+        lines = [json.dumps(init).encode(), *self.random.choices(self.garbage.lines, k=5)]
+        try:
+            said, _ = process.ask(lines)
+            process.ask(lines[1:])
+        except Ended as it:
+            raise Illegal(f"a node begun by {lines[0][:2_000]!r} {it}") from it
+        finally:
+            process.kill()
+        self.counts["begun wrong, " + ("taken" if any(body["type"] == "init_ok" for _, body, _ in said) else "refused")] += 1
 
 
 def dest_of(line):

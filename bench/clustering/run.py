@@ -60,13 +60,14 @@ class Run:
         self.callers = {
             f"caller-{name}": Caller(name, it.calls, it.site, self.random) for name, it in self.made.clients.items() if it.calls
         }
-        self.flying, self.far, self.answers, self.bases = [], set(), answers.Answers(), answers.Bases()
+        self.flying, self.far, self.stopped, self.answers, self.bases = [], set(), set(), answers.Answers(), answers.Bases()
 
     # ---- what is let out
     def let_out(self, source, said):
         for dest, body, line in said:
             if dest in self.at:
                 self.counts[f"packet {body['type']}"] += 1
+                self.stopped |= {body["round"]} if body["type"] == "stop" else set()
                 self.send(source, dest, line)
             elif dest in self.callers:
                 if self.random.random() >= self.habits.loss:
@@ -224,6 +225,8 @@ class Run:
         derived = treaties.Treaties(None, self.made, self.text, TREATIES, 0)
         verdict, bases = legality.checked(self.made, history, derived, MERGES, 1, "nodes")
         self.bases.check(bases)
+        # (where a round ends, calls that wait are made too, and may each end one more, for which nobody stops)
+        self.counts["passed"] = len(set(range(len(bases) - 1)) - self.stopped) if self.made.sites > 1 else 0
         return verdict
 
     def whole(self):

@@ -30,11 +30,16 @@ class Malformed(Failed):
 
 
 class Late(Failed):
-    """A request of this client with a greater number has come before: another caller speaks as this client. This one is not made."""
+    """A request of this client with a greater number has come before: another caller speaks as this client, or the clock from which numbers
+    come has gone back. This one is not made."""
 
 
 class NoAnswer(Failed):
     """Nobody has answered in time. The call may have been made, or may still be: `again` waits for its answer."""
+
+
+class NoCluster(Failed):
+    """No cluster could be reached in time. Nothing was asked."""
 
 
 class StillOpen(Failed):
@@ -74,6 +79,7 @@ class Caller:
             self.open = json.loads(self.kept.read_bytes())
         # (the number rises over callers that come one after another)
         self.number = max(time.time_ns() // 1_000, self.open["msg_id"] if self.open else 0)
+        self.is_sent = self.open is not None
 
     def __enter__(self):
         return self
@@ -90,7 +96,7 @@ class Caller:
         """The answer of a call, or `Failed`."""
         if self.open:
             raise StillOpen(f"{self.open['transaction']} of {self.client} has no answer yet")
-        self.number += 1
+        self.number, self.is_sent = max(self.number + 1, time.time_ns() // 1_000), False
         request = {"type": "call", "msg_id": self.number, "client": self.client, "transaction": transaction, "args": list(arguments)}
         self.set_open(request)
         return self.again(timeout)
@@ -132,6 +138,7 @@ class Caller:
             self.socket = socket.socket(socket.AF_UNIX)
             self.socket.settimeout(NO_WORD)
             self.socket.connect(self.path)
+        self.is_sent = True
         self.socket.sendall(json.dumps({"body": self.open}).encode() + b"\n")
 
     def heard(self, end):
@@ -155,5 +162,8 @@ class Caller:
 
     def wait(self, seconds, end):
         if end is not None and time.monotonic() + seconds >= end:
+            if not self.is_sent:
+                self.set_open(None)
+                raise NoCluster(f"nobody answers at {self.path}; nothing was asked")
             raise NoAnswer(f"{self.open['transaction']} of {self.client} has no answer in time; it may still be made")
         time.sleep(seconds)

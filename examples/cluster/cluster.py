@@ -51,6 +51,15 @@ def line_of(source, dest, body):
     return json.dumps({"src": source, "dest": dest, "body": body}, separators=(",", ":")).encode()
 
 
+def body_of(line):
+    """The body of a caller's line, empty where it has none."""
+    try:
+        body = json.loads(line)["body"]
+        return body if isinstance(body, dict) else {}
+    except (ValueError, KeyError, TypeError, RecursionError):
+        return {}
+
+
 class Site:
     """A node: what is kept of it, and its process."""
 
@@ -151,7 +160,7 @@ class Site:
 
     async def begin_again(self, ended):
         self.failures = self.failures + 1 if time.monotonic() < self.since + SHORT else 0
-        if self.failures == 0 and ended == 2 or self.failures > MOST_FAILURES:
+        if self.failures > MOST_FAILURES:
             raise Unable(f"site {self.number} ends with status {ended}; what it says of that stands above")
         self.restarts += 1
         self.process = None
@@ -240,28 +249,29 @@ class Cluster:
         own = set()
         try:
             while line := await reader.readline():
-                try:
-                    body = json.loads(line)["body"]
-                    kind, number = body["type"], body.get("msg_id")
-                except (ValueError, KeyError, TypeError, AttributeError):
-                    kind, number = None, None
-                if kind == "call" and body.get("client") in self.clients:
-                    own.add(body["client"])
-                    self.callers[body["client"]].add(writer)
+                body = body_of(line)
+                client = body.get("client")
+                if body.get("type") == "call" and isinstance(client, str) and client in self.clients:
+                    own.add(client)
+                    self.callers[client].add(writer)
                     self.ask(body)
-                elif kind == "status":
-                    writer.write(json.dumps({"body": await self.status() | {"in_reply_to": number}}).encode() + b"\n")
                 else:
-                    code, text = (10, "there is no such client") if kind == "call" else (12, "this is no call")
-                    told = {"type": "error", "in_reply_to": number, "code": code, "text": text}
+                    told = await self.told(body) | {"in_reply_to": body.get("msg_id")}
                     writer.write(json.dumps({"body": told}).encode() + b"\n")
                 await writer.drain()
-        except OSError:
-            pass
+        except (OSError, ValueError):
+            pass  # (the caller is gone, or its line was too long)
         finally:
             for client in own:
                 self.callers[client].discard(writer)
             writer.close()
+
+    async def told(self, body):
+        """The answer to what is no call of a client."""
+        if body.get("type") == "status":
+            return await self.status()
+        code, text = (10, "there is no such client") if body.get("type") == "call" else (12, "this is no call")
+        return {"type": "error", "code": code, "text": text}
 
     def ask(self, body):
         """A call for the site of its client. Whatever a caller writes, it speaks as this client and as nobody else."""

@@ -11,10 +11,11 @@ import sys
 import tempfile
 import threading
 import unittest
+import unittest.mock
 
 import keeping
 import status
-from caller import Caller, Late, Malformed, NoAnswer, NotListed, StillOpen
+from caller import Caller, Late, Malformed, NoAnswer, NoCluster, NotListed, StillOpen
 
 FOLDER = pathlib.Path(__file__).resolve().parent
 TICKETS = FOLDER.parent / "tickets.homeo"
@@ -67,14 +68,24 @@ class Tests(unittest.TestCase):
                 nobody.call("buy", 1)
             self.assertEqual(hall.call("buy", 1).prints, [1])
 
+    def test_cluster_that_is_not_there(self):
+        with Caller(self.folder, "hall") as hall:
+            with self.assertRaises(NoCluster):
+                hall.call("buy", 1, timeout=0.2)
+            self.begin()
+            self.assertEqual(hall.call("buy", 1).prints, [1])
+            self.assertEqual(self.sum(), {"tickets": 29})
+
     def test_caller_that_comes_later(self):
         self.begin()
         with Caller(self.folder, "hall") as one, Caller(self.folder, "hall") as other:
             one.call("buy", 1)
             other.call("buy", 1)
-            with self.assertRaises(Late):
+            one.number = other.number - 2
+            with self.assertRaises(Late), unittest.mock.patch("time.time_ns", lambda: 0):
                 one.call("buy", 1)
-            self.assertEqual(self.sum(), {"tickets": 28})
+            self.assertEqual(one.call("buy", 1).prints, [1])
+            self.assertEqual(self.sum(), {"tickets": 27})
 
     def test_node_that_is_killed(self):
         self.begin()
@@ -163,9 +174,10 @@ class Tests(unittest.TestCase):
             packets = [{"type": "stop", **breach}, {"type": "want", **breach}, {"type": "state", "round": 0, "site": 1, "deltas": [-9]}, {"type": "tick"}]
             for body in packets:
                 raw.sendall(json.dumps({"src": "n1", "dest": "n0", "body": body}).encode() + b"\n")
-            raw.sendall(b"\xff{\n\n[]\nnull\n" + json.dumps({"src": "n1", "body": {"type": "call", "client": "hall"}}).encode() + b"\n")
+            wrong = [b"\xff{", b"", b"[]", b"null", b"[" * 100_000, b'{"body":[]}', b'{"body":{"type":["call"],"client":"hall"}}', b'{"body":{"type":"call","client":["hall"]}}']
+            raw.sendall(b"\n".join([*wrong, json.dumps({"src": "n1", "body": {"type": "call", "client": "hall"}}).encode()]) + b"\n")
             with raw.makefile("rb") as lines:
-                self.assertEqual([json.loads(lines.readline())["body"]["code"] for _ in range(9)], [12] * 9)
+                self.assertEqual([json.loads(lines.readline())["body"]["code"] for _ in range(13)], [12] * 11 + [10, 12])
             self.assertEqual(status.told(self.folder)["sites"], before)
 
     def test_status(self):
