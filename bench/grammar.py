@@ -27,6 +27,8 @@ NO_TOKENS = {
     "&": "the word is and",
     "%": "there is no remainder",
     ":": "an assignment is t := e",
+    "^": "there is no power: a * a",
+    "?": "there is no ?: if b then t := 1 else t := 0",
 }
 
 

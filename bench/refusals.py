@@ -5,6 +5,7 @@ import re
 import hints
 import names
 import numbers_told
+import phrases
 from grammar import NO_TOKENS, Place, hint_of_grammar, is_reserved_as_name
 
 ROOT = pathlib.Path(__file__).resolve().parent.parent
@@ -25,6 +26,10 @@ def hint_of_tokens(at):
         return "a number has at most 18 digits"
     if piece and piece.group()[0].isalpha():
         return "a name has at most 32 characters"
+    if at.rest[:1] == ">" and at.touches == "<":
+        return "there is no <>: not (a = b)"
+    if at.rest[:1] == ":" and not at.is_inmost_brace:
+        return "a declaration has no colon: object x in 0..9 = 5, client a at 0 { .. }"
     return NO_TOKENS.get(at.rest[:1])
 
 
@@ -45,7 +50,7 @@ def hint_of_size(text, offset):
 HINTS = {
     "E1": lambda at, text, offset: hint_of_bytes(text, offset),
     "E3": lambda at, text, offset: hint_of_tokens(at),
-    "E4": lambda at, text, offset: hints.of_slip(at) or hint_of_grammar(at) or hints.expected(at) or hints.of_end(at),
+    "E4": lambda at, text, offset: hints.of_slip(at) or phrases.of_slip(at) or hint_of_grammar(at) or hints.expected(at) or hints.of_end(at),
     "E5": names.taken,
     "E6": hint_of_unknown,
     "E7": names.of_another_kind,

@@ -33,9 +33,9 @@ def passed(condition, wanted):
 class Walk(derivation.Walk):
     """A call walked for all sites at a base.
 
-    `asked` has its sums that may change, as pairs of a form and a rest, each with what it tests, and whether that holds; `guards` those that keep the walk as it is besides;
-    `pinned` the numbers that are taken for what they are at the base; `frozen_for` how it uses each number that the other sites may not
-    move, and of those that nobody may move that it multiplies them.
+    `asked` has its sums that may change, as pairs of a form and a rest, each with what it tests, and whether that holds; `guards` those that
+    keep the walk as it is besides; `pinned` the numbers that are taken for what they are at the base; `frozen_for` how it uses each number
+    that the other sites may not move, and of those that nobody may move that it multiplies them.
     """
 
     def __init__(self, base, call):

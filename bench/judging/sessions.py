@@ -56,8 +56,10 @@ class Session:
         return summary.Part(made, history, found, number)
 
     def head(self):
-        """What there was of batches."""
+        """What there was of batches, and how often all sites came to one state."""
         said = [summary.counted(self.batches, "batch").replace("batchs", "batches")]
         said += [f"{self.refused} refused"] if self.refused else []
         said += [f"{self.batches - self.answered} not answered"] if self.answered < self.batches else []
-        return f"{', '.join(said)}; each end of a batch is one more common state of all sites"
+        states, ends = sum(len(it.history.rounds) for it in self.parts), len(self.parts)
+        closings = f"{summary.counted(states - ends, 'closing')} and {summary.counted(ends, 'end')} of batches"
+        return f"{', '.join(said)}; all sites came to one state {summary.counted(states, 'time')}, at {closings}"

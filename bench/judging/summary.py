@@ -104,11 +104,11 @@ class Summary:
         return self.calls - len(self.closings)
 
     def head(self):
-        """How many calls were local, and how many rounds had none."""
+        """How many calls were local, and how many of the closed rounds had none."""
         share = f" ({percent(self.local(), self.calls)})" if self.calls else ""
-        empty = sum(not any(it.segments) for it in self.rounds)
+        empty = sum(bool(it.closing) and not any(it.segments) for it in self.rounds)
         said = f"{self.local():,} of {counted(self.calls, 'call')} were local{share}, {len(self.closings):,} closed a round"
-        return f"{said}; {empty:,} of {counted(len(self.rounds), 'round')} had no local call"
+        return said + (f"; {empty:,} of these rounds had no local call" if self.closings else "")
 
     def by_object(self):
         return collections.Counter(subject(cause) for cause, _ in self.found)
