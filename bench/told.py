@@ -15,18 +15,16 @@ def explain_report(name, report_name, shows_all):
     """Why the rounds of a report were closed."""
     text, told = (bytes_of(it).decode("ascii", "replace") for it in (name, report_name))
     made, history = workload.read(text), report.read(told)
-    said = progress.Progress("why: round", len(history.rounds))
-    found = causes.Causes(made, history, say=said)
-    said.end()
+    with progress.Progress("why: round", len(history.rounds)) as said:
+        found = causes.Causes(made, history, say=said)
     return summary.Summary([summary.Part(made, history, found)]).lines(shows_all)
 
 
 def explain_session(head, batches, told, shows_all):
     """Why the rounds of a session's batches were closed."""
     stream, told = bytes_of(head) + bytes_of(batches), bytes_of(told).decode("ascii", "replace")
-    said = progress.Progress("why: batch", told.count("\nrounds "))
-    found = sessions.Session(stream, told, said)
-    said.end()
+    with progress.Progress("why: batch", told.count("\nrounds ")) as said:
+        found = sessions.Session(stream, told, said)
     return [found.head(), *summary.Summary(found.parts).lines(shows_all)]
 
 
