@@ -1,13 +1,13 @@
 -- What is given, put together.
-use Rattle.std.proofs.Common.{◌≡◌, ℕ, List, [], ◌∷◌, ◌++◌, refl, sym, ap, subst, ◌∙◌, append_assoc, append-nil}
-use Rattle.std.specs.Prelude.{Contains, ◌⊎◌}
+use Rattle.std.proofs.Common.{◌≡◌, List, [], ◌∷◌, ◌++◌, refl, sym, ap, subst, ◌∙◌, append_assoc, append-nil}
+use Rattle.std.specs.Prelude.{Contains}
 use Rattle.std.proofs.Common.{⊎_elim, arith}
 use Rattle.std.proofs.lemmas.List.Elements.{Contains-append_left, Contains-append_right, Contains-append_cases, Contains-push_cases}
 use Rattle.homeo_history.specs.Answers as h
 use Rattle.homeo_nodes.specs.Nodes as n
 use Rattle.homeo_desk.specs.declared.output.Answer.{Answer}
 use Rattle.homeo_desk.specs.declared.output.Output.{Output}
-use Rattle.homeo_desk.specs.Outputs.{packets_in, packets_of, AreIn, answers_in, answers_of, AreTold, none, told, untold, Says, Gives}
+use Rattle.homeo_desk.specs.Outputs.{packets_in, packets_of, AreIn, answers_in, answers_of, AreTold, none, told, untold, Gives}
 
 -- ---- packets
 pub in_itself : (ps : List n.Packet) → AreIn ps ps

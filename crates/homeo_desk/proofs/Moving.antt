@@ -1,5 +1,5 @@
 -- Moves, put together.
-use Rattle.std.proofs.Common.{◌≡◌, ℕ, List, [], ◌∷◌, ◌++◌, map, refl, sym, ap, subst, ◌∙◌, append_assoc, append-nil}
+use Rattle.std.proofs.Common.{◌≡◌, List, [], ◌∷◌, ◌++◌, map, refl, sym, ap, subst, ◌∙◌, append_assoc, append-nil}
 use Rattle.std.specs.Prelude.{Contains, Option, Some, IfSome}
 use Rattle.homeo_syntax.specs.Source as s
 use Rattle.homeo_syntax.specs.SourceView.{plain_workload}
@@ -18,7 +18,7 @@ use Rattle.homeo_desk.specs.declared.output.Output.{Output}
 use Rattle.homeo_desk.specs.DeskView.{DeskValue}
 use Rattle.homeo_desk.specs.Moves.{reacts, sent_after, told_after, IsOf, AreOf, IsMove}
 use Rattle.homeo_desk.specs.Outputs.{AreIn, Gives}
-use Rattle.homeo_desk.proofs.Giving.{in_itself, in_nothing, in_left, in_right, in_both, gives_nothing, gives_then, gives_wider}
+use Rattle.homeo_desk.proofs.Giving.{in_itself, in_nothing, in_both, gives_then}
 
 -- ---- inputs, one list after another
 module _ (w : s.Workload) where

@@ -1,4 +1,4 @@
-use Rattle.std.proofs.Common.{◌∷◌, [], ◌++◌, map, subst, sym}
+use Rattle.std.proofs.Common.{◌∷◌, [], map, subst, sym}
 use Rattle.std.specs.Prelude.{Contains, IfSome}
 use Rattle.std.proofs.lemmas.List.{map-append}
 use Rattle.homeo_nodes.specs.Nodes as n

@@ -1,4 +1,4 @@
-use Rattle.std.proofs.Common.{rules, ◌≡◌, [], map, take, refl, ap, subst, sym, ◌∙◌}
+use Rattle.std.proofs.Common.{rules, ◌≡◌, [], map, take, refl, subst, sym}
 use Rattle.homeo_nodes.specs.Nodes.{resent}
 use Rattle.homeo_nodes.specs.Small.{grown}
 use Rattle.homeo_live.specs.LiveView.{plain_packet}
