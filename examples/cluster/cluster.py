@@ -367,7 +367,8 @@ def stop(folder):
 
 
 def main():
-    parser = argparse.ArgumentParser(prog="cluster.py", usage="%(prog)s TEXT [OPTIONS]", description=__doc__, formatter_class=argparse.RawDescriptionHelpFormatter)
+    plain = argparse.RawDescriptionHelpFormatter
+    parser = argparse.ArgumentParser(prog="cluster.py", usage="%(prog)s TEXT [OPTIONS]", description=__doc__, formatter_class=plain)
     parser.add_argument("text", nargs="?")
     parser.add_argument("--dir")
     parser.add_argument("--rtt", type=float, default=0)
