@@ -95,6 +95,9 @@ class Run:
         words += ["--fsync"] if self.random.random() < 0.3 else []
         self.runner = Runner(node, folder / "text.homeo", self.folder, words)
 
+    def client(self, name, calls):
+        return Client(self.folder, name, calls, random.Random(f"{name} {self.random.random()}"))
+
     def kill_some(self):
         """Kills nodes and runners for some seconds."""
         end = time.monotonic() + KILLING
@@ -111,7 +114,7 @@ class Run:
 
     def whole(self):
         """What is said of a run whose history is legal, or `Illegal`."""
-        clients = [Client(self.folder, name, it.calls, random.Random(f"{name} {self.random.random()}")) for name, it in self.made.clients.items() if it.calls]
+        clients = [self.client(name, it.calls) for name, it in self.made.clients.items() if it.calls]
         try:
             self.runner.start()
             for it in clients:
@@ -132,7 +135,8 @@ class Run:
         history = report.read(report.write(answers.history(self.made, kept, statuses)))
         verdict = legality.judge(self.made, history, treaties.Treaties(None, self.made, self.text, 300, 0), 20, 1, "nodes")
         calls = verdict.local + verdict.closing
-        return f"runners, {self.name}: {calls} calls, {verdict.closing} of them closed rounds; {self.kills} nodes and {self.again} runners killed; legal"
+        killed = f"{self.kills} nodes and {self.again} runners killed"
+        return f"runners, {self.name}: {calls} calls, {verdict.closing} of them closed rounds; {killed}; legal"
 
 
 def run(node, seed):

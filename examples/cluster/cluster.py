@@ -294,7 +294,7 @@ class Cluster:
 # ---- the command
 def held_folder(folder, is_fresh):
     """The folder of a cluster, held as long as this process lives, so that no other runner works there."""
-    folder.mkdir(parents=True, exist_ok=True)
+    folder.mkdir(mode=0o700, parents=True, exist_ok=True)
     held = open(folder / "runner", "a+", encoding="ascii")
     try:
         fcntl.flock(held, fcntl.LOCK_EX | fcntl.LOCK_NB)
@@ -367,7 +367,8 @@ def stop(folder):
 
 
 def main():
-    parser = argparse.ArgumentParser(prog="cluster.py", usage="%(prog)s TEXT [OPTIONS]", description=__doc__, formatter_class=argparse.RawDescriptionHelpFormatter)
+    plain = argparse.RawDescriptionHelpFormatter
+    parser = argparse.ArgumentParser(prog="cluster.py", usage="%(prog)s TEXT [OPTIONS]", description=__doc__, formatter_class=plain)
     parser.add_argument("text", nargs="?")
     parser.add_argument("--dir")
     parser.add_argument("--rtt", type=float, default=0)

@@ -184,7 +184,8 @@ def as_table(body):
         lines.append(f"site {it['site']}: {it['mode']}" + (f" in round {it['round']}{waits}" if "round" in it else "") + again)
     lines += objects_table(body)
     answered = total(body, "local") + total(body, "closing")
-    lines.append(f"{answered} calls answered: {total(body, 'local')} by their site alone, {total(body, 'closing')} closed a round; {body['open']} open")
+    ways = f"{total(body, 'local')} by their site alone, {total(body, 'closing')} closed a round"
+    lines.append(f"{answered} calls answered: {ways}; {body['open']} open")
     lines.append(f"answered at once: {share(total(body, 'at_once'), answered)}")
     if body["closings"]:
         lines.append(f"closings by object: {named(body['closings_by_object'])}")
@@ -225,18 +226,23 @@ class Page:
 
 def as_page(body):
     page, sites = Page(), body["sites"]
+    of = lambda it, **more: {"site": it["site"], **more}
     seen = [it for it in sites if "round" in it]
-    page.add("site_answers", "gauge", "Whether the site tells its status.", [({"site": it["site"]}, int(it in seen)) for it in sites])
-    page.add("site_running", "gauge", "Whether the site answers calls alone now.", [({"site": it["site"]}, int(it["mode"] == "running")) for it in seen])
-    page.add("site_round", "gauge", "The round of the site.", [({"site": it["site"]}, it["round"]) for it in seen])
-    page.add("site_waiting_calls", "gauge", "Calls that wait at the site.", [({"site": it["site"]}, it["waiting"]) for it in seen])
-    page.add("site_restarts_total", "counter", "How often the site was begun again.", [({"site": it["site"]}, it["restarts"]) for it in sites])
-    page.add("object", "gauge", "Base and deltas of all sites, while they are in one round.", [({"object": name}, it) for name, it in (body["sum"] or {}).items()])
-    page.add("delta", "gauge", "What a site has changed in its round.", [({"site": it["site"], "object": name}, delta) for it in seen for name, delta in it["deltas"].items()])
-    page.add("calls_total", "counter", "Answered calls.", [({"site": it["site"], "path": path}, it[path]) for it in body["calls"] for path in ("local", "closing")])
-    page.add("calls_at_once_total", "counter", "Calls that were answered at once.", [({"site": it["site"]}, it["at_once"]) for it in body["calls"]])
+    page.add("site_answers", "gauge", "Whether the site tells its status.", [(of(it), int(it in seen)) for it in sites])
+    page.add("site_running", "gauge", "Whether the site answers calls alone now.", [(of(it), int(it["mode"] == "running")) for it in seen])
+    page.add("site_round", "gauge", "The round of the site.", [(of(it), it["round"]) for it in seen])
+    page.add("site_waiting_calls", "gauge", "Calls that wait at the site.", [(of(it), it["waiting"]) for it in seen])
+    page.add("site_restarts_total", "counter", "How often the site was begun again.", [(of(it), it["restarts"]) for it in sites])
+    values = [({"object": name}, value) for name, value in (body["sum"] or {}).items()]
+    page.add("object", "gauge", "Base and deltas of all sites, while they are in one round.", values)
+    deltas = [(of(it, object=name), delta) for it in seen for name, delta in it["deltas"].items()]
+    page.add("delta", "gauge", "What a site has changed in its round.", deltas)
+    paths = [(of(it, path=path), it[path]) for it in body["calls"] for path in ("local", "closing")]
+    page.add("calls_total", "counter", "Answered calls.", paths)
+    page.add("calls_at_once_total", "counter", "Calls that were answered at once.", [(of(it), it["at_once"]) for it in body["calls"]])
     page.add("open_calls", "gauge", "Calls that have no answer yet.", [({}, body["open"])])
-    page.add("closings_total", "counter", "Rounds that calls of an object closed.", [({"object": name}, it) for name, it in body["closings_by_object"].items()])
+    closings = [({"object": name}, count) for name, count in body["closings_by_object"].items()]
+    page.add("closings_total", "counter", "Rounds that calls of an object closed.", closings)
     page.add("errors_total", "counter", "Errors that were answered.", [({"code": code}, count) for code, count in body["errors"].items()])
     add_seconds(page, body["seconds"])
     return "\n".join(page.lines) + "\n"

@@ -171,10 +171,12 @@ class Tests(unittest.TestCase):
             before = status.told(self.folder)["sites"]
             raw.connect(str(self.folder / "socket"))
             breach = {"round": 0, "site": 1, "client": "web", "call": 1, "finding": [0, 11, 9]}
-            packets = [{"type": "stop", **breach}, {"type": "want", **breach}, {"type": "state", "round": 0, "site": 1, "deltas": [-9]}, {"type": "tick"}]
+            packets = [{"type": "stop", **breach}, {"type": "want", **breach}, {"type": "state", "round": 0, "site": 1, "deltas": [-9]}]
+            packets.append({"type": "tick"})
             for body in packets:
                 raw.sendall(json.dumps({"src": "n1", "dest": "n0", "body": body}).encode() + b"\n")
-            wrong = [b"\xff{", b"", b"[]", b"null", b"[" * 100_000, b'{"body":[]}', b'{"body":{"type":["call"],"client":"hall"}}', b'{"body":{"type":"call","client":["hall"]}}']
+            wrong = [b"\xff{", b"", b"[]", b"null", b"[" * 100_000, b'{"body":[]}', b'{"body":{"type":["call"],"client":"hall"}}']
+            wrong.append(b'{"body":{"type":"call","client":["hall"]}}')
             raw.sendall(b"\n".join([*wrong, json.dumps({"src": "n1", "body": {"type": "call", "client": "hall"}}).encode()]) + b"\n")
             with raw.makefile("rb") as lines:
                 self.assertEqual([json.loads(lines.readline())["body"]["code"] for _ in range(13)], [12] * 11 + [10, 12])
