@@ -236,6 +236,10 @@ class Run:
                 self.start(runner)
             for _ in range(self.habits.events):
                 self.event()
+            if not self.habits.loss and not self.habits.kills:
+                # (every answer was heard so far, so what there is of the history is whole)
+                self.judged()
+                self.counts["midway"] += 1
             self.counts["turns"] = self.drain()
             self.check_rest()
             return self.judged()
