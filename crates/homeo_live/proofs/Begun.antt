@@ -20,8 +20,7 @@ use Rattle.homeo_history.specs.Legal.{IsCallAt}
 use Rattle.homeo_history.specs.Replayed.{MeetsTreaty}
 use Rattle.homeo_site.specs.BareView.{BareValue, bare_begun}
 use Rattle.homeo_site.specs.SiteState.{SiteState, begun}
-use Rattle.homeo_site.specs.SiteView.{StartValue}
-use Rattle.homeo_site.specs.inner.Ready.{with_deltas}
+use Rattle.homeo_site.specs.SiteView.{StartValue, with_deltas}
 use Rattle.homeo_nodes.specs.declared.breach.Breach.{Breach}
 use Rattle.homeo_nodes.specs.declared.breach.Mode.{Mode}
 use Rattle.homeo_nodes.specs.declared.breach.Mode.TheVariants.{Running}

@@ -19,10 +19,10 @@ use Rattle.homeo_history.specs.declared.history.Segment.{Segment}
 use Rattle.homeo_site.specs.Key.{definitions}
 use Rattle.homeo_site.specs.BareView.{BareValue, bare_begun, after_bare}
 use Rattle.homeo_site.specs.SiteState.{SiteState, step_prints, step_values, step_deltas, step_finding, begun}
-use Rattle.homeo_site.specs.SiteView.{StartValue}
+use Rattle.homeo_site.specs.SiteView.{StartValue, with_deltas}
 use Rattle.homeo_site.specs.Standing.{IsStart}
 use Rattle.homeo_site.specs.inner.Bare.{IsBare}
-use Rattle.homeo_site.specs.inner.Ready.{IsReady, with_deltas, IsAfterStep}
+use Rattle.homeo_site.specs.inner.Ready.{IsReady, IsAfterStep}
 use Rattle.homeo_site.proofs.LocalSteps.{count_like, after_within, step_list, ready}
 use Rattle.homeo_site.proofs.SitesHold.{begun_holds}
 

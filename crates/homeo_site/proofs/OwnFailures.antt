@@ -16,9 +16,9 @@ use Rattle.homeo_history.specs.Key.{definitions as history_definitions}
 use Rattle.homeo_site.specs.Key.{definitions}
 use Rattle.homeo_site.specs.OwnTreaty.{OwnClause, SumsFit, own_clauses}
 use Rattle.homeo_site.specs.SiteState.{step_values, step_finding}
-use Rattle.homeo_site.specs.SiteView.{StartValue}
+use Rattle.homeo_site.specs.SiteView.{StartValue, with_deltas}
 use Rattle.homeo_site.specs.inner.OwnRound.{IsOwnRound}
-use Rattle.homeo_site.specs.inner.Ready.{with_deltas, IsAfterStep}
+use Rattle.homeo_site.specs.inner.Ready.{IsAfterStep}
 use Rattle.homeo_site.proofs.LocalSteps.{after_within, step_list}
 use Rattle.homeo_site.proofs.OwnFits.{own_clauses_fit}
 

@@ -20,9 +20,9 @@ use Rattle.homeo_history.specs.declared.history.Segment.{Segment}
 use Rattle.homeo_site.specs.Key.{definitions}
 use Rattle.homeo_site.specs.Attempts.{IsChange, IsEmptyCopy}
 use Rattle.homeo_site.specs.SiteState.{SiteState, SiteHolds, KeepsCall, step_prints, step_values, step_deltas, step_finding, local_entry, after_local}
-use Rattle.homeo_site.specs.SiteView.{StartValue, SiteValue}
+use Rattle.homeo_site.specs.SiteView.{StartValue, SiteValue, with_deltas}
 use Rattle.homeo_site.specs.declared.attempts.Change.{Change}
-use Rattle.homeo_site.specs.inner.Ready.{IsReady, with_deltas, IsAfterStep}
+use Rattle.homeo_site.specs.inner.Ready.{IsReady, IsAfterStep}
 use Rattle.homeo_outline.specs.Numbers.{has}
 use Rattle.homeo_site.specs.Standing.{IsSite, state_in}
 use Rattle.homeo_site.proofs.LocalSteps.{ready}

@@ -13,8 +13,7 @@ use Rattle.homeo_site.specs.Key.{definitions}
 use Rattle.homeo_site.specs.Attempts.{IsRoom, IsEmptyCopy}
 use Rattle.homeo_outline.specs.Numbers.{has}
 use Rattle.homeo_site.specs.SiteState.{SiteHolds, begun, step_prints, step_deltas}
-use Rattle.homeo_site.specs.inner.Ready.{with_deltas}
-use Rattle.homeo_site.specs.SiteView.{StartValue, SiteValue}
+use Rattle.homeo_site.specs.SiteView.{with_deltas, StartValue, SiteValue}
 use Rattle.homeo_site.specs.declared.attempts.Room.{Room}
 use Rattle.homeo_site.specs.Standing.{IsStart, IsSite, state_in}
 use Rattle.homeo_site.proofs.SitesHold.{begun_holds}

@@ -10,7 +10,7 @@ ghost use Rattle.homeo_plan.specs.Planned.{sites_of};
 ghost use Rattle.homeo_history.specs.Legal.{IsCallAt};
 ghost use Rattle.homeo_history.specs.Replayed.{MeetsTreaty};
 ghost use Rattle.homeo_site.specs.BareView.{bare_begun, IsRan, after_ran};
-ghost use Rattle.homeo_site.specs.inner.Ready.{with_deltas};
+ghost use Rattle.homeo_site.specs.SiteView.{with_deltas};
 
 use crate::own_round::OwnRound;
 use crate::start::SiteStart;
@@ -43,7 +43,7 @@ impl Model for BareSite {
     ghost use Rattle.homeo_syntax.specs.SourceView.{plain_workload};
     ghost use Rattle.homeo_syntax.specs.contracts.workload.Workload as workload;
     ghost use Rattle.homeo_site.specs.BareView.{BareValue};
-    ghost use Rattle.homeo_site.specs.inner.Ready.{with_deltas};
+    ghost use Rattle.homeo_site.specs.SiteView.{with_deltas};
     ghost use Rattle.homeo_site.specs.inner.Bare.{IsBare};
 
     ghost Value = { BareValue };

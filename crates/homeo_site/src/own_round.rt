@@ -13,7 +13,8 @@ ghost use Rattle.homeo_build.specs.Plan.{IsObjectPlan};
 ghost use Rattle.homeo_history.specs.Legal.{IsCallAt};
 ghost use Rattle.homeo_history.specs.Replayed.{finding_at};
 ghost use Rattle.homeo_site.specs.SiteState.{step_prints, step_deltas, step_finding};
-ghost use Rattle.homeo_site.specs.inner.Ready.{IsReady, with_deltas, IsAfterStep};
+ghost use Rattle.homeo_site.specs.inner.Ready.{IsReady, IsAfterStep};
+ghost use Rattle.homeo_site.specs.SiteView.{with_deltas};
 
 use crate::own_treaty::first_failure;
 use homeo_build::Compiled;

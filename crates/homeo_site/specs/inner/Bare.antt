@@ -2,8 +2,8 @@
 use Rattle.std.specs.Prelude.{List, ℤ}
 use Rattle.homeo_syntax.specs.SourceView.{plain_workload}
 use Rattle.homeo_meaning.specs.Acceptance.{IsAccepted}
-use Rattle.homeo_site.specs.SiteView.{StartValue}
-use Rattle.homeo_site.specs.inner.Ready.{IsReady, with_deltas}
+use Rattle.homeo_site.specs.SiteView.{StartValue, with_deltas}
+use Rattle.homeo_site.specs.inner.Ready.{IsReady}
 
 -- the workload is accepted, the deltas meet the site's treaty, and base plus deltas is within bounds
 pub record IsBare (v : StartValue) (x : List ℤ) : Type 0 where

@@ -1,5 +1,5 @@
 -- What a site's deltas have to be for a call's local step.
-use Rattle.std.specs.Prelude.{◌≡◌, ℕ, ◌<◌, false, List, [], length, ℤ, ◌+ℤ◌}
+use Rattle.std.specs.Prelude.{◌≡◌, ℕ, ◌<◌, false, List, length, ℤ, ◌+ℤ◌}
 use Rattle.homeo_syntax.specs.Source as s
 use Rattle.homeo_meaning.specs.Bounds.{AllWithin, IsWithin}
 use Rattle.homeo_meaning.specs.Schema.{schema_of}
@@ -10,7 +10,7 @@ use Rattle.homeo_history.specs.Legal.{IsCallAt}
 use Rattle.homeo_history.specs.Replayed.{MeetsTreaty}
 use Rattle.homeo_outline.specs.Numbers.{has}
 use Rattle.homeo_site.specs.SiteState.{SiteState, step_deltas}
-use Rattle.homeo_site.specs.SiteView.{StartValue}
+use Rattle.homeo_site.specs.SiteView.{StartValue, with_deltas}
 
 -- they meet the site's treaty, and base plus deltas is within bounds
 pub record IsReady (w : s.Workload) (x : SiteState) : Type 0 where
@@ -19,10 +19,6 @@ pub record IsReady (w : s.Workload) (x : SiteState) : Type 0 where
   pub count : length x.deltas ≡ length x.base
   pub meets : MeetsTreaty w x.base x.number (values_of x.deltas)
   pub all : AllWithin (schema_of w) (λ n. values_of x.base n +ℤ values_of x.deltas n)
-
--- a site with these deltas in a round, of whose entries nothing is said
-abbrev pub with_deltas : StartValue → List ℤ → SiteState
-with_deltas v x = record { number = v.number; round = v.round; base = v.base; deltas = x; segment = [] }
 
 -- these deltas are those after a call's local step, from deltas that a site may have there, and these objects all that it wrote
 pub record IsAfterStep (w : s.Workload) (v : StartValue) (written : List ℕ) (deltas : List ℤ) : Type 0 where

@@ -9,9 +9,9 @@ use Rattle.homeo_plan.specs.Treaty.{Treaty, finding}
 use Rattle.homeo_outline.specs.Numbers.{has}
 use Rattle.homeo_site.specs.OwnTreaty.{OwnClause, SumsFit, own_clauses}
 use Rattle.homeo_site.specs.SiteState.{step_finding}
-use Rattle.homeo_site.specs.SiteView.{StartValue}
+use Rattle.homeo_site.specs.SiteView.{StartValue, with_deltas}
 use Rattle.homeo_site.specs.inner.Parts.{CanKeep}
-use Rattle.homeo_site.specs.inner.Ready.{with_deltas, IsAfterStep}
+use Rattle.homeo_site.specs.inner.Ready.{IsAfterStep}
 use Rattle.homeo_site.proofs.OwnFailures.{step_fits, step_fails}
 use Rattle.homeo_site.proofs.PartsMade.{can_keep}
 use Rattle.homeo_site.proofs.own_round.OwnRound.failure.Goals as goal

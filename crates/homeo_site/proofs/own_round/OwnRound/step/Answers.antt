@@ -15,8 +15,7 @@ use Rattle.homeo_meaning.specs.declared.call.CallId.{CallId}
 use Rattle.homeo_plan.specs.Planned.{planned, planned_at}
 use Rattle.homeo_plan.specs.Template.{PlannedCall}
 use Rattle.homeo_outline.specs.declared.plan.ObjectPlan.{ObjectPlan}
-use Rattle.homeo_site.specs.SiteView.{StartValue}
-use Rattle.homeo_site.specs.inner.Ready.{with_deltas}
+use Rattle.homeo_site.specs.SiteView.{StartValue, with_deltas}
 use Rattle.homeo_site.proofs.OwnEvals.{step_places, step_sums, step_small, prints_left, deltas_left}
 use Rattle.homeo_site.proofs.CallsOfSites.{planned_there}
 use Rattle.homeo_site.proofs.own_round.OwnRound.step.Goals as goal

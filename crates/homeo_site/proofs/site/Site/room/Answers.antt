@@ -3,8 +3,7 @@ use Rattle.std.proofs.Common.{List, [], length, replicate, ℤ, refl, ap, ◌∙
 use Rattle.homeo_syntax.specs.SourceView.{plain_workload}
 use Rattle.homeo_meaning.specs.Serial.{values_of}
 use Rattle.homeo_site.specs.SiteState.{step_prints, step_deltas}
-use Rattle.homeo_site.specs.SiteView.{SiteValue}
-use Rattle.homeo_site.specs.inner.Ready.{with_deltas}
+use Rattle.homeo_site.specs.SiteView.{SiteValue, with_deltas}
 use Rattle.homeo_site.proofs.SiteAttempts.{ready_here, call_here}
 use Rattle.homeo_site.proofs.SiteViews.{still_site, spare_changed, room_is, copies_are}
 use Rattle.homeo_site.proofs.site.Site.room.Goals as goal
