@@ -91,7 +91,7 @@ class Causes:
     def check(self):
         """That the report is of this text, and that its calls print what it says and leave what it ends with. Notes what each round changes."""
         legality.check_shape(self.workload, self.history)
-        legality.check_calls(self.workload, self.history, False)
+        legality.check_first_calls(self.workload, self.history)
         self.changes, database = [], dict(self.initial)
         for number, found in enumerate(self.history.rounds):
             written = {}
