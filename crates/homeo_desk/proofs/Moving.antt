@@ -8,7 +8,7 @@ use Rattle.homeo_meaning.specs.declared.call.CallId.{CallId}
 use Rattle.homeo_history.specs.Answers as h
 use Rattle.homeo_nodes.specs.Key.{definitions}
 use Rattle.homeo_nodes.specs.Nodes as n
-use Rattle.homeo_nodes.specs.Nodes.{Input, Asked, Served, Came, Ticked, resent}
+use Rattle.homeo_nodes.specs.Nodes.{Input, Asked, Served, Came, Withdrew, Ticked, resent}
 use Rattle.homeo_nodes.specs.Small.{Small, small, grown, small_after}
 use Rattle.homeo_nodes.specs.Told.{told}
 use Rattle.homeo_live.specs.declared.packet.Packet.{Packet}
@@ -46,6 +46,7 @@ module _ (w : s.Workload) where
   of_more calls more ps qs (Asked call) f i h = f call h
   of_more calls more ps qs Served f i h = h
   of_more calls more ps qs (Came packet) f i h = i packet h
+  of_more calls more ps qs (Withdrew packet) f i h = absurd h
   of_more calls more ps qs Ticked f i h = h
 
   pub are_of_more : (calls more : List CallId) (ps qs : List n.Packet) (xs : List Input) (x : Small) →

@@ -5,7 +5,7 @@ use Rattle.homeo_syntax.specs.SourceView.{plain_workload}
 use Rattle.homeo_meaning.specs.declared.call.CallId.{CallId}
 use Rattle.homeo_history.specs.Answers as h
 use Rattle.homeo_nodes.specs.Nodes as n
-use Rattle.homeo_nodes.specs.Nodes.{Reaction, Input, Asked, Served, Came, Ticked, reaction}
+use Rattle.homeo_nodes.specs.Nodes.{Reaction, Input, Asked, Served, Came, Withdrew, Ticked, reaction}
 use Rattle.homeo_nodes.specs.Small.{Small, small, grown, small_after}
 use Rattle.homeo_nodes.specs.Told.{told}
 use Rattle.homeo_desk.specs.declared.output.Output.{Output}
@@ -24,11 +24,12 @@ abbrev pub told_after : s.Workload → List Input → Small → List h.Answer
 told_after w [] x = []
 told_after w (input ∷ inputs) x = told (grown x) (reacts w input x).step ++ told_after w inputs (small (reacts w input x).node)
 
--- a call is one of these; a packet is one of these
+-- a call is one of these; a packet is one of these; and nothing is withdrawn
 abbrev pub IsOf : List CallId → List n.Packet → Input → Type 0
 IsOf calls packets (Asked call) = Contains calls call
 IsOf calls packets Served = Unit {0}
 IsOf calls packets (Came packet) = Contains packets packet
+IsOf calls packets (Withdrew packet) = ⊥
 IsOf calls packets Ticked = Unit {0}
 
 -- each is of these calls, and of these packets or of those that the node has sent by the inputs before it
