@@ -154,11 +154,11 @@ class Busy(Exception):
 
 
 def as_database(body):
-    """The database of a cluster at rest, as a report ends with it, but for relations."""
+    """The database of a cluster at rest, as a report has it, but for relations, and the round that all nodes are in."""
     if body["sum"] is None or body["open"] or any(it["mode"] != "running" for it in body["sites"]):
         raise Busy("calls are open, or nodes aren't all running in one round, so there is no last database")
     values = "".join(f"{name} = {value}\n" for name, value in body["sum"].items())
-    return f"round {body['sites'][0]['round']}\ndatabase\n{values}"
+    return f"database\n{values}round {body['sites'][0]['round']}\n"
 
 
 def total(body, what):

@@ -195,7 +195,7 @@ class Tests(unittest.TestCase):
             self.assertRegex(line, r'^(# (HELP|TYPE) homeo_\w+ .+|homeo_\w+(\{(\w+="[^"]*",?)+\})? -?[0-9.]+)$')
         self.assertEqual(re.findall(r"^homeo_answer_seconds_count (\d+)$", page, re.M), ["4"])
         self.assertIn("closings by object: tickets 1\n", status.said(self.folder, "table"))
-        self.assertEqual(status.said(self.folder, "database"), "round 1\ndatabase\ntickets = 14\n")
+        self.assertEqual(status.said(self.folder, "database"), "database\ntickets = 14\nround 1\n")
 
     def test_what_is_kept(self):
         kept = keeping.Kept(self.folder, False)

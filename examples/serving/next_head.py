@@ -1,6 +1,6 @@
 #!/usr/bin/env python3
-"""next_head.py HEAD < ANSWERS: prints the next head, in which each object starts with the value of the last whole answer's database, and
-behind it the batches that put the slots of its relations back. HEAD may be such an output."""
+"""next_head.py HEAD < ANSWERS: prints the next head, in which each object starts with the value of the last whole answer's database, or of
+what `cluster.py --database` says, and behind it the batches that put the slots of its relations back. HEAD may be such an output."""
 import pathlib
 import re
 import sys
@@ -28,7 +28,7 @@ def main():
     head = re.split(r"^[ \t\r]*end[ \t\r]*$", pathlib.Path(sys.argv[1]).read_text(), maxsplit=1, flags=re.M)[0]
     head = EARLIER.sub("", head)
     answers = sys.stdin.read()
-    last = (re.findall(r"^database\n((?:\S+ = -?\d+\n)*)rounds \d+ calls \d+\n", answers, re.M) or [""])[-1]
+    last = (re.findall(r"^database\n((?:\S+ = -?\d+\n)*)(?:rounds \d+ calls \d+|round \d+)\n", answers, re.M) or [""])[-1]
     kept = homeo.read(f"{last}rounds 0 calls 0\n")
     # (the answers have the names of clients)
     prefix = homeo.prefix_of(re.findall(r"\w+", head + answers))
