@@ -100,7 +100,8 @@ fn stop(rt: &impl Abort, alloc: Global, node: &mut LiveNode, breach: Breach) -> 
 
 /// The one answer of a node that has closed its round.
 fn closed(rt: &impl Abort, alloc: Global, node: &mut LiveNode, packet: Packet) -> Answer {
-    match deliver(rt, alloc, node, packet).0 {
+    let (step, _sent) = deliver(rt, alloc, node, packet);
+    match step {
         Step::Closed(answers) => {
             let mut answers = answers.into_vec();
             same(rt, &answers.len(), &1);
