@@ -34,7 +34,9 @@ HEART = [
     ("homeo_meaning/specs/Serial.antt", "calls one after another on one database"),
     ("homeo_meaning/specs/Meaning.antt", "what each expression and each command means"),
 ]
-# Of each of these the document says what every definition says that the clause `done` reaches.
+# A line for each command: the document says what every definition says that one of these lines names.
+LINES = ("Rattle.homeo_commands.specs.Made", ("IsMade", "IsRefusal"))
+# Of each of these it says what every definition says that the clause `done` reaches.
 TOLD = [
     "homeo.specs.Outcome",
     "homeo_commands.specs.Made",
@@ -122,19 +124,21 @@ def check(verdict):
         part = text.partition(marked.begin_of(name))[2].partition(marked.end_of(name))[0]
         verdict(f"THEOREM.md: {name}", None if part.strip().splitlines() == lines else "not what stands in the sources: run bench/theorem.py")
     rows = re.findall(r"^\| (`\w+`(?:, `\w+`)*) \| [^|]* \| \[[^\]]*\]\(([^)]+)\) \|$", text, re.M)
-    words = [(word, target) for listed, target in rows for word in re.findall(r"\w+", listed)]
+    words = [(word, (DOCUMENT.parent / target).resolve()) for listed, target in rows for word in re.findall(r"\w+", listed)]
     verdict("THEOREM.md: words", None if words else "there is no table of them")
-    for word, target in words:
-        file = DOCUMENT.parent / target
+    for word, file in words:
         is_there = file.exists() and re.search(rf"^\s*(?:(?:abbrev|unfoldable)\s+)?pub (?:record )?{word}\b|^\s*ghost {word}:", file.read_text(), re.M)
-        verdict(f"THEOREM.md: {word}", None if is_there else f"{target} doesn't define it")
+        verdict(f"THEOREM.md: {word}", None if is_there else f"{file.name} doesn't define it")
     cited = set(re.findall(r"\b(?:[A-Z]\.)?(\w+)\b", " ".join(clause("done")).partition("→")[2]))
     names = cited - {"words", "now", "items", "old", "new", "source", "out", "S", "O"}
     lacking = names - {word for word, _ in words}
     verdict("THEOREM.md: words of the clause", f"{sorted(lacking)} have no row" if lacking else None)
     found, definitions = reached_by_clause()
-    told = {it.name for it in definitions if it.module.removeprefix("Rattle.") in TOLD}
-    lacking = told - {word for word, _ in words}
+    made, named = found.modules[LINES[0]], set()
+    for name in LINES[1]:
+        named |= {it for it in found.named(made.definitions[name].text, made.imports, made) if isinstance(it, reach.Definition)}
+    told = {it for it in definitions if it.module.removeprefix("Rattle.") in TOLD} | named
+    lacking = {f"{it.name} of {it.module}" for it in told if (it.name, found.modules[it.module].file.resolve()) not in words}
     verdict("THEOREM.md: words of outcomes and histories", f"{sorted(lacking)} have no row" if lacking or not told else None)
     legend = text.partition("## The legend")[2].partition("\n## ")[0]
     lacking = signs(found, definitions) - {it.replace("\\", "") for it in re.findall(r"(?:\\\||[^\s`,;|])+", legend)}
