@@ -52,7 +52,7 @@ const TOO_LONG: Refusal = Refusal {
 /// # Errors
 ///
 /// `Refused` where what the source tells is refused under the command, `ReadFault` where the source failed, and `Memory` where
-/// memory is wanting; never `Usage`.
+/// memory is wanting; never `Usage`. The source has given no more than the command takes.
 pub fn output_of<R: Threads + Wait + Sync, S: Source, G: Gate>(
     rt: &R,
     alloc: Global,

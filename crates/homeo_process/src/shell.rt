@@ -44,7 +44,7 @@ impl Shell {
     ///
     /// # Errors
     ///
-    /// `Memory` when out of memory.
+    /// `Memory` when out of memory. Some bytes may have been appended.
     pub fn refuse_long(&self, alloc: Global, out: &mut Vec<u8>) -> Result<(), Memory> {
         let head = Head {
             from: None,
