@@ -5,6 +5,7 @@ backquote stands before the place of the refusal. Each text has a schedule, so t
 limit is accepted under all of them; one past it is refused under those that `refusing` gives, and accepted under the others.
 
 `certified()` gives a text whose certificate is as long as it may be, and one whose certificate has a byte more.
+`streams()` gives a `Stream` for each limit of `serve`, and one past it: its name, its bytes, the complaint and the answers.
 `joint_texts()` gives those at the limit of the joint table, which refuses nothing. `long_texts()` gives texts of 1 MB that are refused
 under each command, for one thing again and again, or for a fault behind as much as may stand before it.
 """
@@ -13,6 +14,7 @@ import itertools
 import string
 
 Boundary = collections.namedtuple("Boundary", "name code within past")
+Stream = collections.namedtuple("Stream", "name stream said answers")
 
 # The commands that read a text.
 COMMANDS = ("steps", "run", "tables", "treaty", "forecast")
@@ -20,7 +22,7 @@ COMMANDS = ("steps", "run", "tables", "treaty", "forecast")
 MOST_BYTES, MOST_SITES, MOST_SLOTS, MOST_OBJECTS, MOST_TRANSACTIONS, MOST_CLIENTS = 1_048_576, 16, 64, 1_024, 256, 64
 MOST_CALLS, MOST_DIFFERENT, MOST_DIGITS, LONGEST_NAME, GREATEST_BOUND, MOST_DEEP = 20_000, 1_024, 18, 32, 10**12, 32
 MOST_SIZE, MOST_SIZES, MOST_DEPTH, MOST_PRINTS, MOST_ROWS, MOST_ROWS_TIMES_SIZES = 200_000, 2_000_000, 1_000, 1_000_000, 4_096, 8_000_000
-GREATEST_WEIGHT, MOST_CERTIFICATE = 1_000, 16_777_216
+GREATEST_WEIGHT, MOST_CERTIFICATE, MOST_STREAM = 1_000, 16_777_216, 67_108_864
 END = "end\n"
 
 
@@ -353,3 +355,30 @@ def certified():
         return (begin(1) + transactions + f"client a at 0 {{ {client} }}\n" + END).encode()
 
     return text(left), text(left + 1)
+
+
+# ---- streams
+LINES = (begin(1) + "object x in 0..1 = 0\n").encode()
+HEAD, EMPTY = LINES + END.encode(), b"round 0\nsite 0\ndatabase\nx = 0\nrounds 1 calls 0\n"
+LONG_FRAME, LONG_STREAM = f"refused E2 at {MOST_BYTES}\n", f"refused E16 at {MOST_STREAM}\n"
+
+
+def batch_of(size):
+    """A batch of so many bytes, with no call."""
+    ended = b"schedule\nend\n"
+    return b" " * (size - len(ended)) + ended
+
+
+def streams():
+    most, line = MOST_BYTES - len(LINES), LONG_FRAME.encode()
+    yield Stream("a batch's text at the limit", HEAD + batch_of(most) + batch_of(20), "", 2 * EMPTY)
+    yield Stream("a batch's text past the limit", HEAD + batch_of(most + 1) + batch_of(20), "", line + EMPTY)
+    yield Stream("a frame at the limit", HEAD + batch_of(MOST_BYTES) + batch_of(20), "", line + EMPTY)
+    yield Stream("a frame past the limit", HEAD + batch_of(20) + batch_of(MOST_BYTES + 1), LONG_FRAME, EMPTY)
+    yield Stream("a head at the limit", b" " * (MOST_BYTES - len(HEAD)) + HEAD + b"schedule\nend\n", "", line)
+    yield Stream("a head past the limit", b" " * (MOST_BYTES - len(HEAD) + 1) + HEAD, LONG_FRAME, b"")
+    full = HEAD + batch_of(MOST_BYTES) * (MOST_STREAM // MOST_BYTES - 1)
+    full += batch_of(MOST_STREAM - len(full) - 20) + batch_of(20)
+    answers = line * (MOST_STREAM // MOST_BYTES - 1) + 2 * EMPTY
+    yield Stream("a stream at the limit", full, "", answers)
+    yield Stream("a stream past the limit", full + b"\n", LONG_STREAM, answers)
