@@ -43,6 +43,7 @@ INNER = {
     "homeo_template": [],
     "homeo_build": [],
     "homeo_effect": [],
+    "homeo_cert_reader": [],
     "homeo_words": [],
 }
 # Crates that take minutes to prove, and would be proved once more for their wrong bodies: bench/wrong-bodies alone tries these.
