@@ -26,3 +26,10 @@ def table(heads, rows):
     """A table in Markdown, its first column words and the others numbers."""
     said = [heads, ["---", *["---:"] * (len(heads) - 1)], *rows]
     return [f"| {' | '.join(str(cell) for cell in row)} |" for row in said]
+
+
+def rows(document, name):
+    """The rows of the table between the markers of that name, each a list of words."""
+    part = document.read_text().partition(begin_of(name))[2].partition(end_of(name))[0]
+    found = [line.strip("|").split("|") for line in part.splitlines() if line.startswith("|")]
+    return [[cell.strip() for cell in row] for row in found[2:]]
