@@ -131,7 +131,8 @@ class Ahead:
         room, factors = bounds[site] // steps[site][0], dict(sorted(key[0], key=lambda it: self.asking.order[it[0]]))
         askers = [(it, []) for it in self.asking.askers_of(key)]
         closing = self.closing(site, steps[site], bounds[site])
-        cause = Cause(0, closing, factors, self.asking.slack(key), askers, self.values(factors), steps[site][0], *self.asking.tested(key))
+        tested = (*self.asking.tested(key), self.derivation.writers_of(factors))
+        cause = Cause(0, closing, factors, self.asking.slack(key), askers, self.values(factors), steps[site][0], *tested)
         return Part(cause, bounds, steps, room, [site], self.workload.sites)
 
     def closing(self, site, step, bound):

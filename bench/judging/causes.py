@@ -21,8 +21,8 @@ class Cause:
     """Why a call closed its round: the factors of its site's numbers in a clause, with the slack, or a number that is frozen there.
 
     `askers` are the ground calls that ask for it, each with how it uses a frozen number, nothing for a clause; `values` has what these
-    numbers are at the base; `together` what all sites came to by the end of the round, and for a clause `of` what the first call tests, and
-    `holds` whether that was so.
+    numbers are at the base; `together` what all sites came to by the end of the round, and for a clause `of` what the first call tests,
+    `holds` whether that was so, and `writers` the sites whose calls may move it.
     """
 
     number: int
@@ -34,6 +34,7 @@ class Cause:
     together: int = 0
     of: object = None
     holds: bool = True
+    writers: frozenset = frozenset()
 
     def is_freeze(self):
         return self.slack is None
@@ -154,7 +155,7 @@ class Causes:
         askers = [(it, []) for it in self.asking.askers_of(key)]
         values, after = self.values(factors), self.changes[number]
         together = sum(factor * (after.get(name, values[name]) - values[name]) for name, factor in factors.items())
-        return Cause(number, closing, factors, slack, askers, values, together, *self.asking.tested(key))
+        return Cause(number, closing, factors, slack, askers, values, together, *self.asking.tested(key), self.derivation.writers_of(factors))
 
     def bound(self, key, site):
         form = [(factor, name, at) for name, factor in key[0] for at in range(self.workload.sites)] if self.workload.weights else []

@@ -3,7 +3,9 @@
 Each ground call is walked at the base, of each `if` the branch that the base takes. Values are linear forms over the deltas of all
 sites; the tests on the way give the clauses, and what a site prints and writes gives the freezes.
 """
+import collections
 import dataclasses
+import functools
 
 import judging.programs as p
 from judging.treaty import Clause, Treaty, split
@@ -294,21 +296,29 @@ def may_write(found, parameters):
 
 
 class Derivation:
-    """Derives the treaties of a workload's rounds from its ground calls.
-
-    `written` has the deltas that the sites' calls write in one case or another, in whatever round.
-    """
+    """Derives the treaties of a workload's rounds from its ground calls."""
 
     def __init__(self, workload):
         self.sites, self.weights, self.calls = workload.sites, workload.weights, ground_calls(workload)
-        self.written = set()
-        for call, site in self.calls if self.weights else []:
-            parameters = dict(zip(call.transaction.parameters, call.arguments))
-            self.written.update((name, site) for name in may_write(call.transaction.body, parameters))
+
+    @functools.cached_property
+    def writers(self):
+        """The sites whose calls write a number in one case or another, in whatever round, by its name."""
+        found = collections.defaultdict(set)
+        for call, site in self.calls:
+            for name in may_write(call.transaction.body, dict(zip(call.transaction.parameters, call.arguments))):
+                found[name].add(site)
+        return dict(found)
+
+    def writers_of(self, names):
+        """The sites whose calls write one of these numbers."""
+        return frozenset(site for name in names for site in self.writers.get(name, ()))
 
     def shares(self, form):
         """The share of each site in a clause: its weight, where its calls write one of its deltas there. Without any, all are even."""
-        writers = {site for _, name, site in form if (name, site) in self.written}
+        if not self.weights:
+            return [1] * self.sites
+        writers = {site for _, name, site in form if site in self.writers.get(name, ())}
         found = [weight if site in writers else 0 for site, weight in enumerate(self.weights)]
         return found if any(found) else [1] * self.sites
 

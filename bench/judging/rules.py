@@ -9,7 +9,10 @@ START = "A number that starts at its bound has no slack"
 CLAIM = "An insert and a claim close"
 ONCE = "A call made once binds for the whole text"
 RANGE = "A range for each site"
-ALL = (PRINT, LAST, WEIGHTS, START, CLAIM, ONCE, RANGE)
+VERSION = "Begin with version 2"
+HOME = "A home site for each key"
+APART = "Rare calls in a batch of their own"
+ALL = (PRINT, LAST, WEIGHTS, START, CLAIM, ONCE, RANGE, VERSION, HOME, APART)
 # Calls are rare of which there is one, or at most one among so many.
 RARE = 20
 
@@ -21,16 +24,28 @@ def link(rule):
 
 def rules_of(cause, workload, made):
     """The rules about a cause, the first one first; `made` counts the calls of a report by their transactions."""
-    found = rules_of_freeze(cause) if cause.is_freeze() else [rule_of_clause(cause, workload)]
-    return [ONCE, *found[:1]] if is_rare(cause, made) else found
+    found = rules_of_freeze(cause) if cause.is_freeze() else rules_of_clause(cause, workload)
+    if not is_rare(cause, made):
+        return found
+    return [ONCE, APART] if uses_of(cause) == {SETS} else [ONCE, *found[:1]]
 
 
-def rule_of_clause(cause, workload):
+def rules_of_clause(cause, workload):
     if any(name.endswith(".used") for name in cause.factors) or is_claim(cause):
-        return CLAIM
+        return [CLAIM]
     is_scarce = cause.together > cause.slack or cause.slack < workload.sites
     # (a test that fails is kept failing, as where a number stands at its bound)
-    return WEIGHTS if not is_scarce else LAST if cause.holds else START
+    found = WEIGHTS if not is_scarce else LAST if cause.holds else START
+    if is_slack_elsewhere(cause, workload):
+        return [VERSION, found]
+    is_keyed = all("." in name for name in cause.factors)
+    return [found, HOME] if workload.weights and is_keyed and len(cause.writers) > 1 else [found]
+
+
+def is_slack_elsewhere(cause, workload):
+    """Whether the call had stayed local, had only the sites that move it the slack, as in version 2."""
+    is_spread = not workload.weights and len(cause.writers) < workload.sites
+    return is_spread and cause.closing.sum * len(cause.writers) <= cause.slack
 
 
 def is_rare(cause, made):
@@ -39,8 +54,13 @@ def is_rare(cause, made):
     return cause.closing.transaction() not in asking and sum(made[it] for it in asking) <= max(1, sum(made.values()) / RARE)
 
 
+def uses_of(cause):
+    """How the calls that ask for it use a frozen number."""
+    return {it for _, all_uses in cause.askers for it in all_uses}
+
+
 def rules_of_freeze(cause):
-    uses = {it for _, all_uses in cause.askers for it in all_uses}
+    uses = uses_of(cause)
     is_own = cause.closing.transaction() in {it.call.transaction.name for it, _ in cause.askers}
     (name,) = cause.factors
     if is_own and "." in name and uses == {SETS}:
