@@ -75,7 +75,7 @@ def at_rest(folder):
     end = time.monotonic() + PATIENCE
     while time.monotonic() < end:
         try:
-            sites = status.told(folder)["sites"]
+            sites = status.told(status.Folder(folder))["sites"]
         except (OSError, ValueError):
             sites = []
         if sites and all(it["mode"] == "running" and it["waiting"] == 0 for it in sites) and len({it["round"] for it in sites}) == 1:

@@ -80,10 +80,11 @@ def tested(of, workload):
 
 
 class Ahead:
-    """The parts of a text's first treaty that leave room for few calls: `parts`, those with the least room first."""
+    """The parts of a text's first treaty, or of the one that begins with another base, that leave room for few calls: `parts`, those with the
+    least room first."""
 
-    def __init__(self, workload):
-        self.workload, self.base = workload, workload.initial()
+    def __init__(self, workload, base=None):
+        self.workload, self.base = workload, base or workload.initial()
         self.asking, self.derivation = asking.Asking(workload, self.base), Derivation(workload)
         self.made = collections.Counter(call.transaction.name for client in workload.clients.values() for call in client.calls)
         self.moves = {it: self.moves_of(it) for it in self.asking.askers}

@@ -3,6 +3,8 @@
     with Caller("tickets.cluster", "hall") as hall:
         print(hall.call("buy", 2).prints)
 
+Over Redis, for which engines.py, nodes.py and redis_engine.py are copied too, it is Caller("tickets", "hall", redis="HOST:PORT").
+
 A caller speaks as one client that the cluster's text lists. It asks one call at a time, each with a number that rises, and sends it again
 with the same number where the connection is lost or the node had no room: so each call is made once, whatever is killed meanwhile. Two
 that are to ask side by side need a client each.
@@ -65,16 +67,93 @@ class Answer:
         return self.path == "local"
 
 
+class Socket:
+    """The way to a cluster on this machine. What fails is an `OSError`."""
+
+    def __init__(self, folder):
+        self.path, self.socket, self.rest = str(pathlib.Path(folder) / "socket"), None, b""
+
+    def close(self):
+        if self.socket:
+            self.socket.close()
+        self.socket, self.rest = None, b""
+
+    def connect(self):
+        if not self.socket:
+            self.socket = socket.socket(socket.AF_UNIX)
+            self.socket.settimeout(NO_WORD)
+            self.socket.connect(self.path)
+
+    def send(self, request):
+        self.socket.sendall(json.dumps({"body": request}).encode() + b"\n")
+
+    def heard(self, seconds):
+        """The bodies of the answers that come next, none where there is none for some seconds."""
+        self.socket.settimeout(seconds)
+        try:
+            piece = self.socket.recv(1 << 16)
+        except TimeoutError:
+            return []
+        if not piece:
+            raise ConnectionError("the cluster has ended")
+        *lines, self.rest = (self.rest + piece).split(b"\n")
+        return [json.loads(line)["body"] for line in lines]
+
+    def lacks(self, fault):
+        """Why nothing could be asked, in words."""
+        return f"nobody answers at {self.path}"
+
+
+class Streams:
+    """The way to a cluster over an engine (engines.py), as Redis."""
+
+    def __init__(self, engine, client):
+        self.engine, self.client, self.site, self.after, self.refused = engine, client, None, None, []
+
+    def close(self):
+        self.after = None
+
+    def connect(self):
+        if self.after is None:
+            self.site, self.after = self.engine.site_of(self.client), self.engine.last(self.client)
+
+    def send(self, request):
+        if self.site is None:
+            self.refused = [{"type": "error", "in_reply_to": request["msg_id"], "code": 10, "text": "there is no such client"}]
+            return
+        line = {"src": f"client-{self.client}", "dest": f"n{self.site}", "body": request}
+        self.engine.put(f"n{self.site}", json.dumps(line, separators=(",", ":")).encode())
+
+    def heard(self, seconds):
+        if self.site is None:
+            return self.refused
+        found = self.engine.answers(self.client, self.after, seconds)
+        self.after = found[-1][0] if found else self.after
+        return [json.loads(line)["body"] for _, line in found]
+
+    def lacks(self, fault):
+        return str(fault)
+
+
+def way_to(cluster, client, redis):
+    if not redis:
+        return Socket(cluster)
+    from redis_engine import RedisEngine
+
+    return Streams(RedisEngine(redis, cluster), client)
+
+
 class Caller:
-    """A listed client of the cluster in a folder. A call is waited for `timeout` seconds; without a timeout for ever.
+    """A listed client of the cluster in a folder, or of the cluster of this name over Redis. A call is waited for `timeout` seconds; without a
+    timeout for ever.
 
     `kept` names a file in which an open call is kept, so that a caller that is begun again knows of it: then `open` is this call, and
-    `again` has its answer.
+    `again` has its answer. `redis` is HOST:PORT, or a URL as redis-py has it, or @FILE, a file with one of these.
     """
 
-    def __init__(self, folder, client, timeout=30, kept=None):
-        self.path, self.client, self.timeout = str(pathlib.Path(folder) / "socket"), client, timeout
-        self.kept, self.open, self.socket, self.rest = kept and pathlib.Path(kept), None, None, b""
+    def __init__(self, cluster, client, timeout=30, kept=None, redis=None):
+        self.way, self.client, self.timeout = way_to(cluster, client, redis), client, timeout
+        self.kept, self.open, self.heard = kept and pathlib.Path(kept), None, []
         if self.kept and self.kept.exists():
             self.open = json.loads(self.kept.read_bytes())
         # (the number rises over callers that come one after another)
@@ -88,9 +167,8 @@ class Caller:
         self.close()
 
     def close(self):
-        if self.socket:
-            self.socket.close()
-        self.socket, self.rest = None, b""
+        self.way.close()
+        self.heard = []
 
     def call(self, transaction, *arguments, timeout=None):
         """The answer of a call, or `Failed`."""
@@ -124,46 +202,33 @@ class Caller:
         """The body that answers the open call."""
         while True:
             try:
-                self.send(end)
-                body = self.heard(end)
+                self.way.connect()
+                self.is_sent = True
+                self.way.send(self.open)
+                body = self.next_answer(end)
                 if body and body.get("code") != 11:
                     return body
                 self.wait(NO_ROOM if body else 0, end)
-            except OSError:
+            except OSError as fault:
                 self.close()
-                self.wait(NO_CLUSTER, end)
+                # (where nobody lets this in, waiting won't help)
+                self.wait(NO_CLUSTER, 0 if isinstance(fault, PermissionError) else end, fault)
 
-    def send(self, end):
-        if not self.socket:
-            self.socket = socket.socket(socket.AF_UNIX)
-            self.socket.settimeout(NO_WORD)
-            self.socket.connect(self.path)
-        self.is_sent = True
-        self.socket.sendall(json.dumps({"body": self.open}).encode() + b"\n")
-
-    def heard(self, end):
+    def next_answer(self, end):
         """The body of the next answer to the open call, None where there is none for a while."""
         until = time.monotonic() + NO_WORD
         while (left := min(until, end or until) - time.monotonic()) > 0:
-            while b"\n" in self.rest:
-                line, self.rest = self.rest.split(b"\n", 1)
-                body = json.loads(line)["body"]
+            while self.heard:
+                body = self.heard.pop(0)
                 if body.get("in_reply_to") == self.open["msg_id"]:
                     return body
-            self.socket.settimeout(left)
-            try:
-                piece = self.socket.recv(1 << 16)
-            except TimeoutError:
-                return None
-            if not piece:
-                raise ConnectionError("the cluster has ended")
-            self.rest += piece
+            self.heard = self.way.heard(left)
         return None
 
-    def wait(self, seconds, end):
+    def wait(self, seconds, end, fault=None):
         if end is not None and time.monotonic() + seconds >= end:
             if not self.is_sent:
                 self.set_open(None)
-                raise NoCluster(f"nobody answers at {self.path}; nothing was asked")
+                raise NoCluster(f"{self.way.lacks(fault)}; nothing was asked")
             raise NoAnswer(f"{self.open['transaction']} of {self.client} has no answer in time; it may still be made")
         time.sleep(seconds)

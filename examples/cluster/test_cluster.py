@@ -49,7 +49,7 @@ class Tests(unittest.TestCase):
         return ran.stderr
 
     def sum(self):
-        return status.told(self.folder)["sum"]
+        return status.told(status.Folder(self.folder))["sum"]
 
     def test_calls(self):
         self.begin()
@@ -107,7 +107,7 @@ class Tests(unittest.TestCase):
             with self.assertRaises(StillOpen):
                 hall.call("buy", 1)
             self.assertIsNone(self.sum())
-            self.assertEqual([it["mode"] for it in status.told(self.folder)["sites"]], ["stopped", "silent", "stopped"])
+            self.assertEqual([it["mode"] for it in status.told(status.Folder(self.folder))["sites"]], ["stopped", "silent", "stopped"])
             self.signal_node(1, signal.SIGCONT)
             self.assertEqual(hall.again().prints, [4])
             self.assertEqual(kiosk.call("buy", 2).prints, [2])
@@ -168,7 +168,7 @@ class Tests(unittest.TestCase):
         self.begin()
         with Caller(self.folder, "hall") as hall, socket.socket(socket.AF_UNIX) as raw:
             hall.call("buy", 4)
-            before = status.told(self.folder)["sites"]
+            before = status.told(status.Folder(self.folder))["sites"]
             raw.connect(str(self.folder / "socket"))
             breach = {"round": 0, "site": 1, "client": "web", "call": 1, "finding": [0, 11, 9]}
             packets = [{"type": "stop", **breach}, {"type": "want", **breach}, {"type": "state", "round": 0, "site": 1, "deltas": [-9]}]
@@ -180,22 +180,22 @@ class Tests(unittest.TestCase):
             raw.sendall(b"\n".join([*wrong, json.dumps({"src": "n1", "body": {"type": "call", "client": "hall"}}).encode()]) + b"\n")
             with raw.makefile("rb") as lines:
                 self.assertEqual([json.loads(lines.readline())["body"]["code"] for _ in range(13)], [12] * 11 + [10, 12])
-            self.assertEqual(status.told(self.folder)["sites"], before)
+            self.assertEqual(status.told(status.Folder(self.folder))["sites"], before)
 
     def test_status(self):
         self.begin()
         with Caller(self.folder, "hall") as hall:
             for _ in range(4):
                 hall.call("buy", 4)
-        body = json.loads(status.said(self.folder, "json"))
+        body = json.loads(status.said(status.Folder(self.folder), "json"))
         self.assertEqual([(it["local"], it["closing"]) for it in body["calls"]], [(3, 1)])
         self.assertEqual((body["closings"], body["closings_by_object"], body["sum"]), ({"buy(4)": 1}, {"tickets": 1}, {"tickets": 14}))
-        page = status.said(self.folder, "prometheus")
+        page = status.said(status.Folder(self.folder), "prometheus")
         for line in page.splitlines():
             self.assertRegex(line, r'^(# (HELP|TYPE) homeo_\w+ .+|homeo_\w+(\{(\w+="[^"]*",?)+\})? -?[0-9.]+)$')
         self.assertEqual(re.findall(r"^homeo_answer_seconds_count (\d+)$", page, re.M), ["4"])
-        self.assertIn("closings by object: tickets 1\n", status.said(self.folder, "table"))
-        self.assertEqual(status.said(self.folder, "database"), "database\ntickets = 14\nround 1\n")
+        self.assertIn("closings by object: tickets 1\n", status.said(status.Folder(self.folder), "table"))
+        self.assertEqual(status.said(status.Folder(self.folder), "database"), "database\ntickets = 14\nround 1\n")
 
     def test_what_is_kept(self):
         kept = keeping.Kept(self.folder, False)
