@@ -11,7 +11,8 @@ use homeo_build::treaties::{plan_after, plan_at, treaties};
 use homeo_eval::{eval, initial};
 use homeo_ground::Grounding;
 use homeo_outline::ObjectPlan;
-use homeo_plan::{Clause, Delta, Residual, RoundPlan, Term};
+use homeo_plan::{Clause, Config, Delta, Residual, RoundPlan, Template, Term};
+use homeo_print::{ObjectNames, print_template};
 use homeo_syntax::{LCommand, List, Numbers, SplitName};
 use std::alloc::Global;
 use std::process::Abort;
@@ -142,6 +143,49 @@ fn slacks_are_shared_by_weights(rt: HostRuntime) {
     let plan = plan_of(&rt, rt.alloc(), WEIGHTED);
     assert!(rt; has_weighted_bounds(&plan));
     drop(plan);
+}
+
+/// These bounds of two clauses.
+fn bounds_of_two(rt: &impl Abort, alloc: Global, first: &[i128], second: &[i128]) -> Config {
+    let mut bounds = List::new(alloc);
+    for own in [first, second] {
+        let own = Vec::from_slice(alloc, own).expect(rt, "memory");
+        bounds.push(List::from_vec(own)).expect(rt, "memory");
+    }
+    Config { bounds }
+}
+
+/// The text of a template with bounds that are its caller's.
+fn printed(rt: &impl Abort, alloc: Global, c: &Compiled, t: &Template, own: &Config) -> Vec<u8> {
+    assert!(rt; own.bounds.as_slice().len() == t.clauses.as_slice().len());
+    let w = c.workload().workload();
+    let objects = ObjectNames::of(alloc, w).expect(rt, "memory");
+    let mut out = Vec::new(alloc);
+    print_template(&mut out, w, &objects, t, own).expect(rt, "memory");
+    drop(objects);
+    out
+}
+
+#[test]
+fn treaties_are_printed_with_the_bounds_of_their_caller(rt: HostRuntime) {
+    let alloc = rt.alloc();
+    let compiled = compiled(&rt, alloc, ONE_WRITER);
+    let plan = first_plan(&rt, alloc, &compiled);
+    let config = bounds_of_two(&rt, alloc, [1, 5].as_slice(), [4, 0].as_slice());
+    let text = printed(&rt, alloc, &compiled, &plan.template, &config);
+    drop(config);
+    drop(plan);
+    drop(compiled);
+    same_items(
+        &rt,
+        text.as_slice(),
+        b"clauses 2
+0 slack 6 bounds 1 5 form -1*x@0 -1*x@1
+1 slack 4 bounds 4 0 form 1*x@0 1*x@1
+freezes 1
+2 x@1
+",
+    );
 }
 
 /// The shares of the clauses of the round that begins at the starting values.

@@ -24,5 +24,6 @@ pub mod PhrasesBack
 pub mod ReadingBack
 pub mod Scanning
 pub mod TableSteps
+pub mod TemplateSteps
 pub mod TestsBack
 pub mod TreatySteps

@@ -11,7 +11,7 @@ use itoa::{Buffer, Integer};
 ///
 /// # Errors
 ///
-/// `Memory` when out of memory.
+/// `Memory` when out of memory, and then some of the bytes may be appended.
 pub fn push_bytes(out: &mut Vec<u8>, bytes: &[u8]) -> Result<(), Memory>
     ensures { OnOk result (out.new.items ≡ out.old.items ++ bytes.now) }
 {
@@ -23,7 +23,7 @@ pub fn push_bytes(out: &mut Vec<u8>, bytes: &[u8]) -> Result<(), Memory>
 ///
 /// # Errors
 ///
-/// `Memory` when out of memory.
+/// `Memory` when out of memory, and then some of the bytes may be appended.
 pub fn push_integer<I: Integer>(out: &mut Vec<u8>, n: I) -> Result<(), Memory>
     ensures { OnOk result (out.new.items ≡ out.old.items ++ I.text n) }
 {
@@ -35,7 +35,7 @@ pub fn push_integer<I: Integer>(out: &mut Vec<u8>, n: I) -> Result<(), Memory>
 ///
 /// # Errors
 ///
-/// `Memory` when out of memory.
+/// `Memory` when out of memory, and then some of the bytes may be appended.
 pub fn push_byte(out: &mut Vec<u8>, byte: u8) -> Result<(), Memory>
     ensures { OnOk result (out.new.items ≡ out.old.items ++ byte ∷ []) }
 {
@@ -118,7 +118,7 @@ fn put_short(out: &mut Vec<u8>, n: u64)
 ///
 /// # Errors
 ///
-/// `Memory` when out of memory.
+/// `Memory` when out of memory, and then some of the bytes may be appended.
 pub fn push_number(out: &mut Vec<u8>, n: u64) -> Result<(), Memory>
     ensures { OnOk result (out.new.items ≡ out.old.items ++ decimal n) }
 {

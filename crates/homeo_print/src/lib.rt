@@ -23,6 +23,7 @@ mod phrases;
 mod pieces;
 mod spaced;
 mod tables;
+mod templates;
 mod treaties;
 
 pub use append::{
@@ -35,6 +36,7 @@ use homeo_syntax::{Memory, Workload};
 pub use objects::ObjectNames;
 use std::alloc::Global;
 pub use tables::{print_row, print_table_heading};
+pub use templates::print_template;
 pub use treaties::print_plan;
 
 /// The text of a workload: its declarations in order, each in a line of its own. Where the workload came from a text,

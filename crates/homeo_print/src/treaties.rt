@@ -27,7 +27,7 @@ use std::alloc::Global;
 /// How long the front of a term may become before its memory grows.
 const FRONT_ROOM: usize = 64;
 
-fn push_delta(
+pub(crate) fn push_delta(
     out: &mut Vec<u8>,
     w: &Workload,
     objects: &ObjectNames,
@@ -42,7 +42,7 @@ fn push_delta(
 
 /// Appends bounds, each behind a space.
 #[tactic(auto, unfolding(crate::specs::Key::definitions))]
-fn push_bounds(out: &mut Vec<u8>, bounds: &[i128]) -> Result<(), Memory>
+pub(crate) fn push_bounds(out: &mut Vec<u8>, bounds: &[i128]) -> Result<(), Memory>
     ensures { OnOk result (out.new.items ≡ out.old.items ++ numbers_text bounds.now) }
 {
     for bound in bounds {
@@ -230,7 +230,7 @@ fn push_freeze(
 }
 
 /// Appends freezes, numbered from `first` on.
-fn push_freezes(
+pub(crate) fn push_freezes(
     out: &mut Vec<u8>,
     w: &Workload,
     objects: &ObjectNames,
