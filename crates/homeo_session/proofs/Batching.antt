@@ -20,8 +20,9 @@ use Rattle.homeo_accept.specs.RefusalLine.{refusal_line}
 use Rattle.homeo_accept.proofs.Decided.{accepted_not_refused}
 use Rattle.homeo_order.specs.Order.{scheduled_calls}
 use Rattle.homeo_report.specs.Report.{report}
+use Rattle.homeo_frames.specs.LastLines.{without_last_line}
 use Rattle.homeo_session.specs.Key.{definitions}
-use Rattle.homeo_session.specs.Batches.{HeadValue, RefusesHead, TakesHead, IsBatch, BeginsWrong, IsServedBatch, AnswersBatch, without_last_line, IsAnswered}
+use Rattle.homeo_session.specs.Batches.{HeadValue, RefusesHead, TakesHead, IsBatch, BeginsWrong, IsServedBatch, AnswersBatch, IsAnswered}
 
 same_refusal : (r q : Refusal) → r.code ≡ q.code → r.offset ≡ q.offset → r ≡ q
 same_refusal r q c o =

@@ -16,10 +16,10 @@ use Rattle.homeo_reader.specs.Stands.{EndsLexeme, SameDeclarations}
 use Rattle.homeo_reader.proofs.Texts.{texts_stand}
 use Rattle.homeo_accept.specs.RefusalLine.{refusal_line}
 use Rattle.homeo_session.specs.Key.{definitions}
-use Rattle.homeo_session.specs.Batches.{HeadValue, RefusesHead, TakesHead, AnswersBatch, IsAnswered, without_last_line}
+use Rattle.homeo_session.specs.Batches.{HeadValue, RefusesHead, TakesHead, AnswersBatch, IsAnswered}
 use Rattle.homeo_session.specs.inner.Heads.{IsHead, IsServedFrom}
-use Rattle.homeo_session.specs.inner.LastLines.{EndsInEnd}
-use Rattle.homeo_session.proofs.EndLines.{lines_before}
+use Rattle.homeo_frames.specs.LastLines.{EndsInEnd, without_last_line}
+use Rattle.homeo_frames.proofs.EndLines.{lines_before}
 use Rattle.homeo_session.proofs.FirstTokens.{HasToken, token_there}
 
 -- ---- the head

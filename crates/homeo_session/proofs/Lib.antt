@@ -1,6 +1,4 @@
 pub mod Batching
-pub mod Cutting
-pub mod EndLines
 pub mod FirstTokens
 pub mod Keeping
 pub mod Streaming

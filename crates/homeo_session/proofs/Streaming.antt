@@ -2,10 +2,10 @@
 use Rattle.std.proofs.Common.{◌≡◌, ◌∙◌, ◌⊎◌, ◌+◌, ◌≤◌, ℕ, List, [], ◌∷◌, ◌++◌, length, Option, Some, None, refl, sym, ap, subst, append_assoc, append-nil, arith, length-append, inl, inr}
 use Rattle.std.specs.List.{concat}
 use Rattle.homeo_syntax.specs.declared.workload.Refusal.{Refusal}
-use Rattle.homeo_session.specs.Frames.{IsFrame, IsOpen, IsCut}
+use Rattle.homeo_frames.specs.Frames.{IsFrame, IsOpen, IsCut}
 use Rattle.homeo_session.specs.Batches.{HeadValue, RefusesHead}
 use Rattle.homeo_session.specs.Streams.{frame_limit, stream_limit, AreAnswered, AreShort, State, IsAfter, Decides, IsStopped, with_rest, IsServed, EndRefuses, Stops}
-use Rattle.homeo_session.proofs.Cutting.{one_cut, has_cut, cuts_on, frame_not_open, cut_one}
+use Rattle.homeo_frames.proofs.Cutting.{one_cut, has_cut, cuts_on, frame_not_open, cut_one}
 use Rattle.homeo_session.proofs.Batching.{one_refusal, one_answer, head_there, refused_answer}
 
 same_state : (s t : State) → s.head ≡ t.head → s.rest ≡ t.rest → s.count ≡ t.count → s ≡ t

@@ -1,10 +1,10 @@
 -- A stream with one byte more.
 use Rattle.std.proofs.Common.{◌≡◌, ◌∙◌, ◌+◌, ◌<◌, ◌≤◌, ℕ, List, [], ◌∷◌, ◌++◌, length, Option, Some, None, refl, sym, ap, subst, append-nil, arith, length-append, inl, inr}
-use Rattle.homeo_session.specs.Frames.{IsFrame, IsOpen, IsCut}
+use Rattle.homeo_frames.specs.Frames.{IsFrame, IsOpen, IsCut}
 use Rattle.homeo_session.specs.Batches.{HeadValue, TakesHead, AnswersBatch, IsAnswered}
 use Rattle.homeo_session.specs.inner.Heads.{EndsBy}
 use Rattle.homeo_session.specs.Streams.{frame_limit, stream_limit, AreAnswered, AreShort, State, begun, IsAfter, IsServed}
-use Rattle.homeo_session.proofs.Cutting.{cuts_on, cut_none, cut_one, nothing_open}
+use Rattle.homeo_frames.proofs.Cutting.{cuts_on, cut_none, cut_one, nothing_open}
 use Rattle.homeo_session.proofs.Streaming.{row_join, row_head, short_append}
 
 pub nothing_taken : IsAfter [] [] begun

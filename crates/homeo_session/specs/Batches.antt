@@ -1,5 +1,5 @@
 -- What a frame of a session is answered by (this project's rule).
-use Rattle.std.specs.Prelude.{◌≡◌, ◌⊎◌, ℕ, ℤ, ◌==◌, Bool, true, ◌&&◌, not, List, [], ◌∷◌, ◌++◌, if◌then◌else◌, length, map, Option, Some, None, Ok}
+use Rattle.std.specs.Prelude.{◌≡◌, ◌⊎◌, ℕ, ℤ, List, [], ◌∷◌, ◌++◌, length, map, Option, Some, None, Ok}
 use Rattle.homeo_syntax.specs.declared.workload.Refusal.{Refusal}
 use Rattle.homeo_syntax.specs.Source as s
 use Rattle.homeo_syntax.specs.Tokens.{Scanned, scanned_from}
@@ -9,8 +9,8 @@ use Rattle.homeo_meaning.specs.Verdict.{Accepts, IsRefused}
 use Rattle.homeo_history.specs.History.{History}
 use Rattle.homeo_history.specs.Legal.{IsLegalFrom}
 use Rattle.homeo_history.specs.Follows.{Follows}
-use Rattle.homeo_reader.specs.Lines.{newline}
 use Rattle.homeo_reader.specs.Stands.{EndsLexeme}
+use Rattle.homeo_frames.specs.LastLines.{without_last_line}
 use Rattle.homeo_accept.specs.RefusalLine.{refusal_line}
 use Rattle.homeo_order.specs.Order.{scheduled_calls}
 use Rattle.homeo_report.specs.Report.{report}
@@ -22,17 +22,6 @@ pub record HeadValue : Type 0 where
   pub database : List ℤ
 
 -- ---- the head
--- no newline stands there but at the end
-abbrev pub is_one_line : List ℕ → Bool
-is_one_line [] = true
-is_one_line (b ∷ []) = true
-is_one_line (b ∷ c ∷ bytes) = not (b == newline) && is_one_line (c ∷ bytes)
-
--- all lines but the last
-abbrev pub without_last_line : List ℕ → List ℕ
-without_last_line [] = []
-without_last_line (b ∷ bytes) = if is_one_line (b ∷ bytes) then [] else b ∷ without_last_line bytes
-
 -- the head is refused, as a text that is to be run is
 abbrev pub RefusesHead : List ℕ → Refusal → Type 0
 unfolding definitions

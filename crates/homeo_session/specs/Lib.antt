@@ -1,5 +1,4 @@
 pub mod Batches
-pub mod Frames
 pub mod Key
 pub mod Laws
 pub mod Streams

@@ -1,7 +1,7 @@
 -- What is answered to a stream (this project's rule).
 use Rattle.std.specs.Prelude.{◌≡◌, ◌⊎◌, ◌<◌, ◌≤◌, ℕ, Bool, List, [], ◌∷◌, ◌++◌, length, Option, None}
 use Rattle.homeo_syntax.specs.declared.workload.Refusal.{Refusal}
-use Rattle.homeo_session.specs.Frames.{IsFrame, IsCut}
+use Rattle.homeo_frames.specs.Frames.{IsFrame, IsCut}
 use Rattle.homeo_session.specs.Batches.{HeadValue, RefusesHead, IsAnswered}
 
 -- the most bytes of a frame, and of a stream

@@ -11,13 +11,13 @@ ghost use Rattle.homeo_meaning.specs.Schema.{schema_of};
 ghost use Rattle.homeo_meaning.specs.declared.call.Purpose.TheVariants as purpose;
 ghost use Rattle.homeo_accept.specs.RefusalLine.{refusal_line};
 ghost use Rattle.homeo_session.specs.Batches.{HeadValue, RefusesHead, TakesHead, AnswersBatch};
-ghost use Rattle.homeo_session.specs.inner.LastLines.{EndsInEnd};
+ghost use Rattle.homeo_frames.specs.LastLines.{EndsInEnd};
 
 use crate::batch::{Served, serve_batch};
 use crate::first_token::wrong_beginning;
-use crate::line::without_last_line;
 use homeo_accept::{TextRefusal, accepted, refusal_line};
 use homeo_eval::initial;
+use homeo_frames::without_last_line;
 use homeo_meaning::{Accepted, Database, Purpose};
 use homeo_syntax::{Memory, Refusal};
 use std::alloc::Global;

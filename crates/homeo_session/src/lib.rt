@@ -5,7 +5,6 @@ mod batch;
 mod first_token;
 mod head;
 pub mod laws;
-mod line;
 mod session;
 mod stream;
 

@@ -5,11 +5,11 @@ ghost use Rattle.homeo_syntax.specs.declared.workload.Refusal.{Refusal};
 ghost use Rattle.homeo_session.specs.Batches.{RefusesHead, IsAnswered};
 ghost use Rattle.homeo_session.specs.Streams.{begun, IsAfter, Decides, IsStopped, IsServed, EndRefuses};
 ghost use Rattle.homeo_session.specs.inner.Heads.{EndsBy};
-ghost use Rattle.homeo_session.specs.inner.LastLines.{EndsInEnd};
+ghost use Rattle.homeo_frames.specs.LastLines.{EndsInEnd};
 
 use crate::head::{Head, head_refusal, judged};
-use crate::line::ends_frame;
 use homeo_accept::TextRefusal;
+use homeo_frames::ends_frame;
 use homeo_meaning::Purpose;
 use homeo_syntax::{Memory, Refusal};
 use std::alloc::Global;

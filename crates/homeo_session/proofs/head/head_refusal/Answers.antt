@@ -1,7 +1,7 @@
 use Rattle.std.proofs.Common.{Err, refl, ap}
 use Rattle.homeo_syntax.specs.SourceView.{plain_workload}
 use Rattle.homeo_meaning.specs.Initial.{initial}
-use Rattle.homeo_session.specs.Batches.{without_last_line}
+use Rattle.homeo_frames.specs.LastLines.{without_last_line}
 use Rattle.homeo_session.proofs.Keeping.{head_taken, head_refused, same_some}
 use Rattle.homeo_session.proofs.head.head_refusal.Goals as goal
 

@@ -1,7 +1,7 @@
 use Rattle.std.proofs.Common.{◌≡◌, ◌∙◌, ◌+◌, ◌<◌, [], ◌∷◌, ◌++◌, length, refl, sym, ap, subst, arith, inr}
-use Rattle.homeo_session.specs.Frames.{IsFrame, IsOpen}
+use Rattle.homeo_frames.specs.Frames.{IsFrame, IsOpen}
 use Rattle.homeo_session.specs.Batches.{RefusesHead, IsAnswered}
-use Rattle.homeo_session.specs.inner.LastLines.{EndsInEnd}
+use Rattle.homeo_frames.specs.LastLines.{EndsInEnd}
 use Rattle.homeo_session.specs.Streams.{State, IsAfter, frame_limit, Decides}
 use Rattle.homeo_session.specs.contracts.stream.Stream.{the_view}
 use Rattle.homeo_session.proofs.Taking.{after_frame}

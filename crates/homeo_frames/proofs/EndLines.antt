@@ -3,10 +3,10 @@ use Rattle.std.proofs.Common.{◌≡◌, ◌∙◌, ◌+◌, ◌-◌, ◌<◌, �
 use Rattle.std.proofs.lemmas.Bool.{eqb-true}
 use Rattle.std.proofs.lemmas.List.{take_rest, take_at}
 use Rattle.homeo_reader.specs.Lines.{newline, is_blank, is_end, is_end_word, whole_lines}
-use Rattle.homeo_session.specs.Batches.{is_one_line, without_last_line}
-use Rattle.homeo_session.specs.Frames.{is_line, IsFrame, IsOpen}
-use Rattle.homeo_session.specs.inner.LastLines.{last_line, EndsInEnd}
-use Rattle.homeo_session.proofs.Cutting.{open_byte, open_line, frame_line}
+use Rattle.homeo_frames.specs.LastLines.{is_one_line, without_last_line}
+use Rattle.homeo_frames.specs.Frames.{is_line, IsFrame, IsOpen}
+use Rattle.homeo_frames.specs.LastLines.{last_line, EndsInEnd}
+use Rattle.homeo_frames.proofs.Cutting.{open_byte, open_line, frame_line}
 
 -- ---- blanks in front
 pub end_blank : (line : List ℕ) (at : ℕ) → at < length line → is_blank (get_or line at 0) ≡ true → is_end (drop at line) ≡ is_end (drop (at + 1) line)

@@ -1,6 +1,6 @@
 use Rattle.std.proofs.Common.{◌≡◌, ◌≤◌, length, drop, true}
-use Rattle.homeo_session.specs.Frames.{is_line}
-use Rattle.homeo_session.proofs.line.last_line_at.Given as goal
+use Rattle.homeo_frames.specs.Frames.{is_line}
+use Rattle.homeo_frames.proofs.line.last_line_at.Given as goal
 
 abbrev pub invariant-loop-at : goal.invariant-loop-at
 invariant-loop-at l = (l.at ≤ length l.bytes) × (is_line (drop l.at l.bytes) ≡ true)

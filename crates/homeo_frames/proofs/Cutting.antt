@@ -4,8 +4,8 @@ use Rattle.std.specs.List.{concat}
 use Rattle.std.proofs.lemmas.Bool.{eqb-true}
 use Rattle.std.proofs.lemmas.List.Folds.{concat-append}
 use Rattle.homeo_reader.specs.Lines.{newline, is_end, whole_lines}
-use Rattle.homeo_session.specs.Frames.{is_line, IsOther, AreOther, IsFrame, IsOpen, AreFrames, IsCut}
-use Rattle.homeo_session.specs.Laws.{OneCut, HasCut, CutsOn}
+use Rattle.homeo_frames.specs.Frames.{is_line, IsOther, AreOther, IsFrame, IsOpen, AreFrames, IsCut}
+use Rattle.homeo_frames.specs.Laws.{OneCut, HasCut, CutsOn}
 
 -- ---- lines
 both : (a b : Bool) → (a && b) ≡ true → (a ≡ true) × (b ≡ true)

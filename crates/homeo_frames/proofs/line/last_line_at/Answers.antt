@@ -1,8 +1,8 @@
 use Rattle.std.proofs.Common.{◌≡◌, ◌≤◌, ℕ, zero, suc, List, drop, sym, arith, true}
-use Rattle.homeo_session.specs.Frames.{is_line}
-use Rattle.homeo_session.specs.inner.LastLines.{last_line}
-use Rattle.homeo_session.proofs.EndLines.{last_at, whole_last}
-use Rattle.homeo_session.proofs.line.last_line_at.Goals as goal
+use Rattle.homeo_frames.specs.Frames.{is_line}
+use Rattle.homeo_frames.specs.LastLines.{last_line}
+use Rattle.homeo_frames.proofs.EndLines.{last_at, whole_last}
+use Rattle.homeo_frames.proofs.line.last_line_at.Goals as goal
 
 at_start : (xs : List ℕ) (at : ℕ) → at ≤ 0 → is_line (drop at xs) ≡ true → drop at xs ≡ last_line xs
 at_start xs zero h line = sym (whole_last xs line)

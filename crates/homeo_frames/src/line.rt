@@ -3,9 +3,8 @@
 ghost use Rattle.std.specs.Prelude.{◌≡◌, ◌≤◌, ◌++◌, ◌∷◌, [], length, drop, true, false};
 ghost use Rattle.std.specs.List.{list_all};
 ghost use Rattle.homeo_reader.specs.Lines.{is_blank, is_end, is_end_word};
-ghost use Rattle.homeo_session.specs.Batches.{without_last_line};
-ghost use Rattle.homeo_session.specs.Frames.{IsFrame, IsOpen};
-ghost use Rattle.homeo_session.specs.inner.LastLines.{last_line, EndsInEnd};
+ghost use Rattle.homeo_frames.specs.Frames.{IsFrame, IsOpen};
+ghost use Rattle.homeo_frames.specs.LastLines.{last_line, without_last_line, EndsInEnd};
 
 const NEWLINE: u8 = b'\n';
 
@@ -56,7 +55,7 @@ fn last_line_at(bytes: &[u8]) -> usize
 }
 
 /// Whether a byte ends a frame that hasn't ended: a newline, behind a line that is `end`.
-pub(crate) fn ends_frame(rest: &[u8], byte: u8) -> bool
+pub fn ends_frame(rest: &[u8], byte: u8) -> bool
     ensures ends { result ≡ true → IsOpen rest.now → IsFrame (rest.now ++ byte ∷ []) }
     ensures in_end { result ≡ true → EndsInEnd (rest.now ++ byte ∷ []) }
     ensures goes_on { result ≡ false → IsOpen rest.now → IsOpen (rest.now ++ byte ∷ []) }
@@ -68,7 +67,7 @@ pub(crate) fn ends_frame(rest: &[u8], byte: u8) -> bool
 }
 
 /// A frame that has ended, without its last line.
-pub(crate) fn without_last_line(frame: &[u8]) -> &[u8]
+pub fn without_last_line(frame: &[u8]) -> &[u8]
     requires { EndsInEnd frame.now }
     ensures { result.now ≡ without_last_line frame.now }
 {

@@ -1,8 +1,8 @@
 use Rattle.std.proofs.Common.{◌∙◌, ap, sym, refl, ◌≡◌, ◌==◌, Bool, true, false, ℕ}
 use Rattle.std.proofs.lemmas.Bool.{eqb-true}
 use Rattle.homeo_reader.specs.Lines.{newline, is_end}
-use Rattle.homeo_session.proofs.EndLines.{goes_on_byte, goes_on_line, ends_line, in_end, line_at}
-use Rattle.homeo_session.proofs.line.ends_frame.Goals as goal
+use Rattle.homeo_frames.proofs.EndLines.{goes_on_byte, goes_on_line, ends_line, in_end, line_at}
+use Rattle.homeo_frames.proofs.line.ends_frame.Goals as goal
 
 no_newline : (b : ℕ) → (b ≡ newline → ⊥) → (b == newline) ≡ false
 no_newline b other = go (b == newline) refl
