@@ -1,14 +1,14 @@
 """What a site that runs on a machine of its own stands on (turns.py), and its callers (caller.py): an engine, which carries lines and keeps
 states. redis_engine.py is one. Another is a class with the calls of `Engine`; what follows is what it has to keep.
 
-1. ONE STATE BEHIND ANOTHER. `commit` puts a state and an offset in the place of the offset that `read` was given, or does nothing: of two
-   runners that go on from one state one has `Overtaken`, however late it comes.
+1. ONE STATE BEHIND ANOTHER. `commit` puts a state and an offset in the place of the offset with which `read` began, or does nothing: of
+   two runners that go on from one state one has `Overtaken`, however late it comes.
 2. NOTHING BEFORE. What a node said is let out with the state that it then had, or behind it, and never before that is kept.
-3. WHAT IS KEPT STAYS. Where an engine may forget what it kept last, as by a power cut, all that it keeps goes back to one moment:
-   states, offsets and inputs together. Then answers that were given since are lost, and the nodes go on from there as if nothing was.
+3. WHAT IS KEPT STAYS. Where an engine may forget what it kept last, as by a power cut, all that it keeps goes back to one moment: states,
+   offsets and inputs together. Then answers that were given since are lost, and the nodes go on from there as if they never were.
 
-More isn't asked of it. Lines may be lost, repeated, late and in another order, as by any network: ticks send packets again, callers ask again,
-and a node takes nothing twice. So what a node said may be let out behind the commit and not with it, and an offset may be behind its state.
+More isn't asked of it. Lines may be lost, repeated, late and in another order, as on any network: ticks send packets again, callers ask again,
+and a node takes nothing twice. So what a node said may be let out behind the commit and not in it, and an offset may be behind its state.
 """
 
 

@@ -49,8 +49,10 @@ class RedisEngine(Engine):
         # (a password isn't shown)
         self.server = re.sub(r"^\w+://(.*@)?|\?.*$", "", url)
         self.where = f"{name} at {self.server}"
+        patience = {"socket_timeout": PATIENCE} | ({} if url.startswith("unix:") else {"socket_connect_timeout": PATIENCE})
         try:
-            self.redis = self.library.Redis.from_url(url, socket_timeout=PATIENCE, socket_connect_timeout=PATIENCE)
+            self.redis = self.library.Redis.from_url(url, **patience)
+            self.redis.connection_pool.make_connection()  # (which takes the words of the URL)
         except (ValueError, TypeError) as fault:
             raise Unable(f"{self.server} is no address of Redis: {fault}") from None
         self.turn = self.redis.pipeline()
@@ -136,8 +138,10 @@ class RedisEngine(Engine):
 
     # ---- callers
     def site_of(self, client):
-        with self.reached():
-            site, is_there = self.redis.hget(self.key("clients"), client), self.redis.exists(self.key("text"))
+        with self.reached(), self.redis.pipeline() as all_at_once:
+            all_at_once.hget(self.key("clients"), client)
+            all_at_once.exists(self.key("text"))
+            site, is_there = all_at_once.execute()
         if not is_there:
             raise self.no_cluster()
         return None if site is None else int(site)

@@ -5,9 +5,7 @@ import json
 import os
 import pathlib
 import re
-import shutil
 import signal
-import socket
 import subprocess
 import sys
 import tempfile
@@ -24,43 +22,11 @@ import status
 from caller import Caller, NoAnswer, NoCluster, NotListed
 from engines import Barred, Lost, Overtaken
 from redis_engine import RedisEngine
+from redis_server import Server, free_port, is_there
 
 FOLDER = pathlib.Path(__file__).resolve().parent
 TICKETS = FOLDER.parent / "tickets.homeo"
 SITES = 3
-
-
-def free_port():
-    with socket.socket() as found:
-        found.bind(("127.0.0.1", 0))
-        return found.getsockname()[1]
-
-
-class Server:
-    """A server of its own, whose file stays where it is killed."""
-
-    def __init__(self, folder, *words):
-        self.folder, self.port, self.words, self.process = folder, free_port(), words, None
-        self.address = f"127.0.0.1:{self.port}"
-
-    def start(self):
-        """Begins the server, and waits until it answers."""
-        fixed = ["--bind", "127.0.0.1", "--appendonly", "yes", "--save", "", "--loglevel", "warning"]
-        words = ["redis-server", "--port", str(self.port), "--dir", str(self.folder), *fixed, *self.words]
-        self.process = subprocess.Popen(words, stdout=subprocess.DEVNULL, stderr=subprocess.DEVNULL)
-        while not self.answers():
-            time.sleep(0.01)
-
-    def answers(self):
-        """Whether it does, or says that it wants a password."""
-        with contextlib.suppress(OSError), socket.create_connection(("127.0.0.1", self.port), 1) as asking:
-            asking.sendall(b"PING\r\n")
-            return asking.recv(9).startswith((b"+PONG", b"-NOAUTH"))
-        return False
-
-    def kill(self):
-        self.process.kill()
-        self.process.wait()
 
 
 def command(program, *words):
@@ -230,6 +196,7 @@ class Tests(unittest.TestCase):
             ("has no cluster shop", "--status", "shop", *at),
             ("isn't reached", "--status", "shops", *nowhere),
             ("no address of Redis", TICKETS, "--redis", "http://127.0.0.1:1", "--site", 0),
+            ("no address of Redis", TICKETS, "--redis", f"redis://{self.server.address}?word=1", "--site", 0),
             ("No such file", TICKETS, "--redis", "@none", "--site", 0),
             ("--site says which", TICKETS, *at),
             ("by --redis", TICKETS, "--site", 0),
@@ -303,6 +270,6 @@ class Tests(unittest.TestCase):
 
 
 if __name__ == "__main__":
-    if not shutil.which("redis-server"):
+    if not is_there():
         sys.exit("test_redis.py: there is no redis-server here")
     unittest.main()
