@@ -39,11 +39,13 @@ def hint_of_unknown(at, text, offset):
     return names.unknown(at, text, offset)
 
 
-def hint_of_size(text, offset):
+def hint_of_call(code, text, offset):
+    """Of a call that may get too large values, is too large, or branches too much."""
     # (reads the text as the judge does, which no other hint needs)
+    import too_heavy
     import too_large
 
-    return too_large.too_large(text, offset)
+    return {"E10": too_heavy.too_heavy, "E11": too_large.too_large, "E12": too_large.too_branched}[code](text, offset)
 
 
 # What is said of each code, by the place, the text and the offset.
@@ -56,7 +58,9 @@ HINTS = {
     "E7": names.of_another_kind,
     "E8": lambda at, text, offset: numbers_told.of_weights(at) if at.is_weight() else hints.arguments(at, text),
     "E9": lambda at, text, offset: numbers_told.of_weights(at) if at.is_weight() else numbers_told.out_of_bounds(at, text, offset),
-    "E11": lambda at, text, offset: hint_of_size(text, offset),
+    "E10": lambda at, text, offset: hint_of_call("E10", text, offset),
+    "E11": lambda at, text, offset: hint_of_call("E11", text, offset),
+    "E12": lambda at, text, offset: hint_of_call("E12", text, offset),
     "E13": lambda at, text, offset: hints.limit(at),
     "E14": lambda at, text, offset: hints.schedule(text),
 }

@@ -73,14 +73,14 @@ class Measure:
     """The size and the depth of a call on so many sites, or what they have come to where they go beyond what is measured.
 
     `parts` has the sizes of its commands, counts, sums and searches by their identity, `nodes` these parts and `loops` the loops around each;
-    `prints` is how many print commands it has.
+    `prints` is how many print commands it has, and `rows` in how many ways it may branch.
     """
 
     def __init__(self, made, call):
         self.sites, self.slots = made.sites, {}
         self.parameters = dict(zip(call.transaction.parameters, call.arguments))
         self.names, self.fresh, self.written = [{}], 0, {}
-        self.size, self.depth, self.prints = 0, 0, 0
+        self.size, self.depth, self.prints, self.rows = 0, 0, 0, 1
         self.parts, self.nodes, self.loops, self.stack = collections.Counter(), {}, {}, []
         try:
             self.body(call.transaction.body.commands)
@@ -138,15 +138,27 @@ class Measure:
         for test in tests:
             condition = around(test)
             self.add(2 + condition[0], condition[1])
-        after = []
+        after, rows = [], []
         for branch in branches:
             self.names.append({})
-            branch()
+            rows.append(self.rows_of(branch))
             after.append(self.names.pop())
+        self.rows *= sum(rows)
         for name in {name for names in after for name in names}:
             before = self.name(name)
             found = [names.get(name, before) for names in after]
             self.set(name, (max(size for size, _ in found), max(depth for _, depth in found)))
+
+    def rows_of(self, step):
+        """The rows of a step by itself."""
+        before, self.rows = self.rows, 1
+        step()
+        found, self.rows = self.rows, before
+        return found
+
+    def behind_flag(self, step):
+        """A step behind the test that the call is not ended, which has one more row."""
+        self.rows *= self.rows_of(step) + 1
 
     def skip(self):
         self.add(1)
@@ -218,12 +230,15 @@ class Measure:
         """For each slot, the commands of its test, and its body behind the test; those behind a body that can end the call are guarded."""
         for slot in range(relation.slots):
             self.slots[row] = slot
-            guard = ends and slot > 0
-            before = self.size
-            tests = self.condition(condition)
-            if guard:
-                self.add(7 + (self.size > before))
-            self.choice([beside(compared(self.read(relation.used(slot)), LITERAL), tests)], lambda: body(slot), self.skip)
+            visit = lambda: self.visit(relation, condition, body, slot, ends and slot > 0)
+            self.behind_flag(visit) if ends and slot > 0 else visit()
+
+    def visit(self, relation, condition, body, slot, is_guarded):
+        before = self.size
+        tests = self.condition(condition)
+        if is_guarded:
+            self.add(7 + (self.size > before))
+        self.choice([beside(compared(self.read(relation.used(slot)), LITERAL), tests)], lambda: body(slot), self.skip)
 
     # ---- commands
     def body(self, commands):
@@ -232,13 +247,16 @@ class Measure:
         self.commands(commands)
         if ends:
             self.add(11 + (5 * self.sites + 8) * len(self.written))
+            self.rows *= 2
 
     def commands(self, commands):
         guarded = False
         for it in commands:
             if guarded:
                 self.add(7)
-            self.command(it)
+                self.behind_flag(lambda: self.command(it))
+            else:
+                self.command(it)
             guarded = guarded or holds_abort(it)
 
     def command(self, found):

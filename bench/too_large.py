@@ -1,4 +1,5 @@
-"""What ./why says of a call that is too large, or comes after calls that are too large together (E11): its size, the limit, and what makes it so."""
+"""What ./why says of a call that is too large, or comes after calls that are too large together (E11), and under `tables` of one that has too
+many rows, or comes after calls that have together (E12): its size or rows, the limit, and what makes it so."""
 import collections
 
 import judging.programs as p
@@ -6,6 +7,7 @@ from judging import workload
 from sizing import BEYOND, Measure, Reader
 
 MOST_SIZE, MOST_DEPTH, MOST_TOGETHER, MOST_PRINTS = 200_000, 1_000, 2_000_000, 1_000_000
+MOST_ROWS, MOST_ROWS_TIMES_SIZES = 4_096, 8_000_000
 MOST_LETTERS = 60
 
 
@@ -32,11 +34,15 @@ class Calls:
     def prints(self):
         return sum(self.measures[str(call)].prints for call, _ in self.calls)
 
-    def by_transaction(self):
+    def tables(self):
+        """The rows times the size of each different call, added up."""
+        return sum(it.rows * it.size for it in (self.measures[said] for (said, _), _ in self.ground))
+
+    def by_transaction(self, extent=lambda it: it.size):
         """The sizes of the different calls together, by transaction, and how many there are."""
         sizes, counts = collections.Counter(), collections.Counter()
         for (said, _), call in self.ground:
-            sizes[call.transaction.name] += self.measures[said].size
+            sizes[call.transaction.name] += extent(self.measures[said])
             counts[call.transaction.name] += 1
         return sizes, counts
 
@@ -61,6 +67,18 @@ def said_together(calls, said):
     first = next(calls.measures[text] for (text, _), call in calls.ground if call.transaction.name == name)
     head = f"the {len(calls.ground):,} different calls up to {said} have size {calls.together():,} together, and all calls have at most {MOST_TOGETHER:,}"
     return f"{head}; {counts[name]:,} are of {name}, with size {size:,}{because(calls, first)}"
+
+
+def said_of_rows(calls):
+    """The lines of a hint of rows."""
+    said = calls.last()
+    found, ways = calls.measures[said], "a write has 2 rows, an if those of both branches together, and commands one after another have the product"
+    if found.rows > MOST_ROWS:
+        number = f"{found.rows:,}" if found.rows < BEYOND else f"more than {BEYOND:,}"
+        return f"under tables {said} has {number} rows, and a call has at most {MOST_ROWS:,}: {ways}"
+    ((name, extent),) = calls.by_transaction(lambda it: it.rows * it.size)[0].most_common(1)
+    head = f"under tables the {len(calls.ground):,} different calls up to {said} have {calls.tables():,} by rows times size"
+    return f"{head}, and all calls have at most {MOST_ROWS_TIMES_SIZES:,}; {extent:,} are of {name}"
 
 
 def because(calls, found):
@@ -108,9 +126,14 @@ def end_of(text):
     return len(text)
 
 
-def too_large(text, offset):
+def too_large(text, offset, said=said_of):
     """The hint for a call at an offset, None where the text can't be read."""
     try:
-        return said_of(Calls(text, offset))
+        return said(Calls(text, offset))
     except workload.Unreadable:
         return None
+
+
+def too_branched(text, offset):
+    """The hint for a call that has too many rows."""
+    return too_large(text, offset, said_of_rows)
