@@ -1,4 +1,5 @@
 pub mod Called
+pub mod Ended
 pub mod OneOutput
 pub mod Sessions
 pub mod Verdicts

@@ -1,4 +1,5 @@
 pub mod Command
+pub mod Ended
 pub mod Laws
 pub mod Outcome
 pub mod Serving
