@@ -46,7 +46,7 @@ pub record IsWaiting (w : s.Workload) (b : Breach) (n : Node) : Type 0 where
   pub breaks : step_finding w n.journal.site b.call ≡ Some b.broken
 
 pub record AreKept (w : s.Workload) (x : World) : Type 0 where
-  -- a round has at most one call that is chosen, and of each site at most one state
+  -- a round has at most one call that is chosen, and all states of a site in it are the same
   pub one_stop : (a b : Breach) → Contains x.packets (Stop a) → Contains x.packets (Stop b) → a.round ≡ b.round → a ≡ b
   pub one_state : (r i : ℕ) (d e : List ℤ) → Contains x.packets (State r i d) → Contains x.packets (State r i e) → d ≡ e
   -- what is chosen was asked for
@@ -56,11 +56,13 @@ pub record AreKept (w : s.Workload) (x : World) : Type 0 where
       round_of p ≤ n.journal.site.round
   pub waits : (b : Breach) (n : Node) → Contains x.packets (Want b) → slice_get x.nodes b.site ≡ Some n →
       n.journal.site.round ≡ b.round → IsWaiting w b n
-  -- who has sent a state in its round is stopped, and its deltas are those of the state
+  -- who has sent a state in its round is stopped, and its deltas are those of the state; who is stopped has sent it
   pub stopped : (r i : ℕ) (d : List ℤ) (n : Node) → Contains x.packets (State r i d) → slice_get x.nodes i ≡ Some n →
       n.journal.site.round ≡ r → is_stopped n.mode ≡ true
   pub deltas : (r i : ℕ) (d : List ℤ) (n : Node) → Contains x.packets (State r i d) → slice_get x.nodes i ≡ Some n →
       n.journal.site.round ≡ r → n.journal.site.deltas ≡ d
+  pub said : (i : ℕ) (n : Node) → slice_get x.nodes i ≡ Some n → is_stopped n.mode ≡ true →
+      Contains x.packets (State n.journal.site.round i n.journal.site.deltas)
   -- of a round that a node has left, the states of all sites were sent
   pub left : (i r k : ℕ) (n : Node) → slice_get x.nodes i ≡ Some n → r < n.journal.site.round → k < sites_of w →
       (d : List ℤ) × Contains x.packets (State r k d)

@@ -197,7 +197,11 @@ fn until_made(alloc: Global, wire: &mut Wire, count: u64) -> Result<(), Memory>
     Ok(())
 }
 
-/// How many calls all clients have together, or the name of the 201st.
+/// How many calls all clients have together.
+///
+/// # Errors
+///
+/// The name of the 201st, exactly where there is one.
 pub fn count_calls(w: &Accepted) -> Result<u64, Ident>
     ensures counted { IfOk result (λ n. n ≡ length (calls_in (plain_workload w.now))) }
     ensures few { IfOk result (λ n. n ≤ 200) }
