@@ -23,6 +23,7 @@ from caller import Caller, NoAnswer, NoCluster, NotListed
 from engines import Barred, Lost, Overtaken
 from redis_engine import RedisEngine
 from redis_server import Server, free_port, is_there
+from test_turns import check_engine
 
 FOLDER = pathlib.Path(__file__).resolve().parent
 TICKETS = FOLDER.parent / "tickets.homeo"
@@ -52,10 +53,13 @@ class Tests(unittest.TestCase):
         self.server.start()
         self.addCleanup(self.end)
 
+    def kill(self, number):
+        self.runners[number].kill()
+        self.runners[number].communicate()
+
     def end(self):
-        for it in self.runners:
-            it.kill()
-            it.communicate()
+        for number in range(len(self.runners)):
+            self.kill(number)
         self.server.kill()
 
     def begin(self, *sites, text=TICKETS, address=None):
@@ -103,7 +107,7 @@ class Tests(unittest.TestCase):
             for turn in range(6):
                 self.assertEqual(web.call("buy", 4).prints, [4])
                 if turn % 2:
-                    self.runners[1].kill()
+                    self.kill(1)
                     self.begin(1)
                     self.runners[1] = self.runners.pop()
                 else:
@@ -237,36 +241,23 @@ class Tests(unittest.TestCase):
             time.sleep(0.02)
 
     # ---- the engine
-    def test_turns(self):
-        one, other, text = self.engine(), self.engine(), nodes.Text(TICKETS.read_bytes())
-        self.assertTrue(one.begin(text, ["tickets"]))
-        self.assertFalse(other.begin(text, ["tickets"]))
-        with self.assertRaises(nodes.Unable):
-            other.begin(nodes.Text(b"workload 1 sites 1 end"), [])
-        one.put("n0", b"first")
-        one.put("n0", b"second")
-        (first, line), (second, _) = one.read("n0", one.FIRST, 9, 1)
-        self.assertEqual((line, len(other.read("n0", other.FIRST, 1, 1))), (b"first", 1))
-        one.commit("n0", second, {"round": 1}, [("n1", b"packet")], [("hall", b"answer")])
-        with self.assertRaises(Overtaken):
-            other.commit("n0", first, {"round": 9}, [("n1", b"other")], [("hall", b"other")])
-        with self.assertRaises(Overtaken):
-            other.read("n0", other.FIRST, 9, 1)
-        self.assertEqual(one.load("n0"), (second, {"round": 1}))
-        self.assertEqual([line for _, line in one.read("n1", one.FIRST, 9, 1)], [b"packet"])
-        self.assertEqual([line for _, line in one.answers("hall", one.FIRST, 1)], [b"answer"])
-        self.assertEqual(one.read("n0", second, 9, 0.01), [])
-        self.assertEqual((one.site_of("web"), one.site_of("nobody")), (1, None))
-        with self.assertRaises(Lost):
-            RedisEngine(self.server.address, "others").site_of("web")
+    def test_engine(self):
+        check_engine(self, self.engine)
+
+    def test_engine_whose_server_is_killed(self):
+        one = self.engine()
+        one.begin(nodes.Text(TICKETS.read_bytes()), ["tickets"])
+        one.read("n0", one.FIRST, 9, 0.01)
+        one.commit("n0", "1-1", {"round": 1}, [], [])
+        one.read("n0", "1-1", 9, 0.01)
         self.server.kill()
         with self.assertRaises((Lost, Overtaken)):
-            one.commit("n0", "9-9", {"round": 2}, [], [])
+            one.commit("n0", "2-1", {"round": 2}, [], [])
         with self.assertRaises(Lost) as lost:
             one.load("n0")
         self.assertNotIsInstance(lost.exception, Barred)
         self.server.start()
-        self.assertEqual(one.load("n0"), (second, {"round": 1}))
+        self.assertEqual(one.load("n0"), ("1-1", {"round": 1}))
 
 
 if __name__ == "__main__":
