@@ -159,6 +159,7 @@ class Run:
     def disturb(self):
         """What may happen comes for some seconds, the server's end once within them."""
         end, server_at = time.monotonic() + self.seconds, time.monotonic() + self.seconds * self.random.uniform(0.3, 0.7)
+        rare = SECONDS / self.seconds  # (what lasts longer comes as often as in a short run)
         while time.monotonic() < end:
             time.sleep(self.random.choice([0.05, 0.2, 0.5]))
             self.revive()
@@ -166,7 +167,7 @@ class Run:
                 server_at = float("inf")
                 self.kill_server()
             else:
-                self.random.choices([self.kill_node, self.kill_runner, self.part, self.freeze], [4, 4, 1, 1])[0]()
+                self.random.choices([self.kill_node, self.kill_runner, self.part, self.freeze], [4, 4, rare, rare])[0]()
 
     def revive(self):
         """Begins runners again that have ended, as one does that doesn't reach the server when it begins."""

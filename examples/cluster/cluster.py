@@ -58,6 +58,8 @@ def fault_of(chosen):
     """Why options don't go together, or None."""
     if sum(it is not None for it in (chosen.text, chosen.status, chosen.stop)) != 1:
         return "a text is needed, or --status or --stop with the folder of a cluster"
+    if chosen.html and not chosen.status:
+        return "--html is of a status"
     if chosen.redis is None:
         return "--site and --cluster are for a cluster over Redis, by --redis" if chosen.site is not None or chosen.cluster else None
     if others := [f"--{it}" for it in FOLDERS if vars(chosen)[it]]:

@@ -13,6 +13,7 @@ import threading
 import unittest
 import unittest.mock
 
+import counts
 import keeping
 import status
 from caller import Caller, Late, Malformed, NoAnswer, NoCluster, NotListed, StillOpen
@@ -43,9 +44,9 @@ class Tests(unittest.TestCase):
     def signal_node(self, site, which):
         os.kill(int((self.folder / f"n{site}" / "pid").read_text()), which)
 
-    def refused(self, *words):
+    def refused(self, *words, wanted=1):
         ran = subprocess.run(command(*words), capture_output=True, text=True, timeout=60)
-        self.assertEqual(ran.returncode, 1)
+        self.assertEqual(ran.returncode, wanted)
         return ran.stderr
 
     def sum(self):
@@ -196,6 +197,42 @@ class Tests(unittest.TestCase):
         self.assertEqual(re.findall(r"^homeo_answer_seconds_count (\d+)$", page, re.M), ["4"])
         self.assertIn("closings by object: tickets 1\n", status.said(status.Folder(self.folder), "table"))
         self.assertEqual(status.said(status.Folder(self.folder), "database"), "database\ntickets = 14\nround 1\n")
+
+    def test_page(self):
+        self.begin()
+        with Caller(self.folder, "hall") as hall:
+            for _ in range(4):
+                hall.call("buy", 4)
+        self.signal_node(2, signal.SIGSTOP)
+        file = self.folder.parent / "page.html"
+        subprocess.run(command("--status", self.folder, "--html", file), check=True, timeout=60)
+        self.signal_node(2, signal.SIGCONT)
+        page = file.read_text()
+        wanted = ["<td>tickets</td><td class=number>1</td>", "tickets may fall by 14 in all", "by buy(4)", "<b>Weights from a forecast</b>"]
+        wanted += ["<td>buy</td><td class=number>1</td>", "<b>1</b>rounds closed in the last hour", "<span class=wrong>silent</span>", "there is no sum"]
+        self.assertEqual([it for it in wanted if it not in page], [])
+        self.assertFalse(re.search(r"<script|src=|href=|https?://", page))
+        self.assertIn("--html is of a status", self.refused("--stop", self.folder, "--html", file, wanted=2))
+
+    def test_closings_of_the_last_hour(self):
+        hour = counts.LastHour()
+        for minute, name in ((0, "a"), (1, "a"), (30, "b"), (60, "a")):
+            with unittest.mock.patch("time.monotonic", lambda: 60.0 * minute):
+                hour.add(name)
+        with unittest.mock.patch("time.monotonic", lambda: 60.0 * 60):
+            self.assertEqual(hour.sum(), {"a": 2, "b": 1})
+        with unittest.mock.patch("time.monotonic", lambda: 60.0 * 120):
+            self.assertEqual(hour.sum(), {})
+
+    def test_counts_together(self):
+        one, other = counts.Counts(0), counts.Counts(0)
+        one.count(1, "local", 0.001, "t()")
+        for _ in range(2):
+            other.count(0, "closing", 9, "u()")
+        found = counts.together([one.told(), other.told()])
+        self.assertEqual([(it["site"], it["local"], it["closing"], it["at_once"]) for it in found["calls"]], [(0, 0, 2, 0), (1, 1, 0, 1)])
+        self.assertEqual((found["closings"], found["closings_of_last_hour"]), ({"u()": 2}, {"u()": 2}))
+        self.assertEqual([it for it in found["seconds"]["buckets"] if it[1]], [[0.001, 1], [None, 2]])
 
     def test_what_is_kept(self):
         kept = keeping.Kept(self.folder, False)

