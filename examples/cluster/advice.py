@@ -51,14 +51,18 @@ def reasons(text, closings, database):
 
 
 def nearest(treaty, call):
-    """The part of a treaty that leaves room for the fewest calls as this one; where it moves nothing now, of those that ask for it."""
-    moving, asking = [], []
+    """The part of a treaty that leaves room for the fewest calls as this one; where it moves nothing now, of those that it asks for."""
+    moving = [(room_of(part, asker.site, moves), part) for part in treaty.parts for asker, moves in treaty.moves.items() if str(asker.call) == call]
+    found = [it for it in moving if it[0] is not None] or [(part.room, part) for part in asked_by(treaty, call)]
+    return min(found, key=lambda it: it[0], default=(0, None))[1]
+
+
+def asked_by(treaty, call):
+    """The parts that a call asks for, a sum with whatever slack."""
+    forms = {key[0] for key in treaty.clauses if any(str(it.call) == call for it in treaty.asking.askers_of(key))}
     for part in treaty.parts:
-        asking += [(part.room, part)] if any(str(it.call) == call for it, _ in part.cause.askers) else []
-        for asker, moves in treaty.moves.items():
-            if str(asker.call) == call and (room := room_of(part, asker.site, moves)) is not None:
-                moving.append((room, part))
-    return min(moving or asking, key=lambda it: it[0], default=(0, None))[1]
+        if frozenset(part.cause.factors.items()) in forms or any(str(it.call) == call for it, _ in part.cause.askers):
+            yield part
 
 
 def room_of(part, site, moves):

@@ -13,6 +13,7 @@ import threading
 import unittest
 import unittest.mock
 
+import advice
 import counts
 import keeping
 import status
@@ -213,6 +214,15 @@ class Tests(unittest.TestCase):
         self.assertEqual([it for it in wanted if it not in page], [])
         self.assertFalse(re.search(r"<script|src=|href=|https?://", page))
         self.assertIn("--html is of a status", self.refused("--stop", self.folder, "--html", file, wanted=2))
+
+    def test_advice(self):
+        text = (FOLDER.parent / "concert.homeo").read_text()
+        told = lambda seats: [(it.subject, it.count, it.words, it.rules) for it in advice.reasons(text, {"sell(4)": 3, "give_back(2)": 1}, {"seats": seats})]
+        moves = "seats may not rise; give_back(2) at 0 (+2) closes a round at once"
+        self.assertEqual(told(1), [("seats", 4, moves, ("A number that starts at its bound has no slack",))])
+        moves = "seats may fall by 17 in all, site 0 by 8, site 1 by 6, site 2 by 3; room for 1 call such as sell(4) at 1 (-4)"
+        self.assertEqual(told(21), [("seats", 4, moves, ("Weights from a forecast",))])
+        self.assertEqual(advice.reasons(text, {}, {"seats": 1}), [])
 
     def test_closings_of_the_last_hour(self):
         hour = counts.LastHour()
