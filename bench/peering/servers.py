@@ -15,8 +15,8 @@ import subprocess
 # Where Debian has programs that aren't on the path, and who runs PostgreSQL, which doesn't run as root.
 PLACES = [os.environ.get("PATH", ""), *map(str, sorted(pathlib.Path("/usr/lib/postgresql").glob("*/bin"), reverse=True))]
 OTHER = "postgres"
-# The seconds within which a server begins or ends.
-PATIENCE = 30
+# The seconds within which a server begins or ends, and what PostgreSQL says while it begins.
+PATIENCE, STARTING = 30, "57P03"
 
 
 class Refused(Exception):
@@ -146,18 +146,18 @@ class PostgreSQL:
             subprocess.run(words, check=True, stdin=subprocess.DEVNULL, stdout=subprocess.DEVNULL, cwd=it, **self.how)
 
     async def session(self, number):
-        """A connection to one of the servers, where that has begun."""
+        """A connection to one of the servers, as soon as that has begun."""
         path, process = self.folders[number] / ".s.PGSQL.5432", self.servers[number].process
         end = asyncio.get_running_loop().time() + PATIENCE
         while True:
             made = Database(await opened(path, process))
             try:
                 return await made.begin()
-            except Refused as it:
-                # (57P03: the server is still starting)
-                if it.code != "57P03" or asyncio.get_running_loop().time() > end:
-                    raise
+            except (Refused, asyncio.IncompleteReadError) as it:
+                # (it is refused, or let go of, while the server still starts)
                 await made.close()
+                if isinstance(it, Refused) and it.code != STARTING or asyncio.get_running_loop().time() > end:
+                    raise
                 await asyncio.sleep(0.05)
 
     def end(self):
