@@ -1,5 +1,6 @@
 mod Adding
 mod CheckedSteps
+mod DeltasBySite
 pub mod DeltasInOrder
 mod FactorsFound
 mod FormParts

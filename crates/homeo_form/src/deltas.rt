@@ -1,11 +1,12 @@
-//! Deltas in order, each once.
+//! Deltas in order, each once, those of other sites, and those that are written.
 
-ghost use Rattle.std.specs.Prelude.{◌≡◌, ◌<◌, ◌+◌, ◌++◌, length, drop, [], IsTrue, IfOk, OnOk};
+ghost use Rattle.std.specs.Prelude.{◌≡◌, ◌<◌, ◌+◌, ◌++◌, ◌==◌, not, length, drop, [], IsTrue, IfOk, OnOk};
 ghost use Rattle.homeo_plan.specs.Linear.{AreInOrder, same_delta, delta_before, deltas_of, add_delta, add_deltas};
+ghost use Rattle.homeo_plan.specs.Needs.{remote, add_written};
 ghost use Rattle.homeo_form.specs.inner.Order.{IsPlace, begins_with};
 
 use homeo_plan::{Delta, Term};
-use homeo_syntax::Memory;
+use homeo_syntax::{Memory, SplitName};
 use std::alloc::Global;
 
 /// The order is by object, and then by site.
@@ -141,4 +142,41 @@ pub(crate) fn push_deltas_of(deltas: &mut Vec<Delta>, terms: &[Term]) -> Result<
         deltas.push(term.delta)?;
     }
     Ok(())
+}
+
+/// Those of other sites than this one.
+pub(crate) fn remote(alloc: Global, site: u32, deltas: &[Delta]) -> Result<Vec<Delta>, Memory>
+    ensures { IfOk result (λ v. v.items ≡ remote site deltas.now) }
+{
+    let mut others = Vec::new(alloc);
+    for delta in deltas {
+        if is_remote(delta, site) {
+            others.push(*delta)?;
+        }
+    }
+    Ok(others)
+}
+
+fn is_remote(delta: &Delta, site: u32) -> bool
+    ensures { result ≡ not (delta.now.site == site) }
+{
+    delta.site != site
+}
+
+/// Puts a delta that is written behind the others. Another name isn't put there.
+///
+/// # Errors
+///
+/// `Memory` when out of memory.
+#[tactic(auto, unfolding(homeo_plan::specs::Key::definitions))]
+pub fn push_written(written: &mut Vec<Delta>, name: SplitName) -> Result<(), Memory>
+    ensures { OnOk result (add_deltas written.new.items [] ≡ add_written name (add_deltas written.old.items [])) }
+{
+    match name {
+        SplitName::Delta { object, site } => {
+            written.push(Delta { object, site })?;
+            Ok(())
+        }
+        SplitName::Whole(_) | SplitName::Base(_) => Ok(()),
+    }
 }

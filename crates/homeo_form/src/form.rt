@@ -4,6 +4,7 @@ ghost use Rattle.std.specs.Prelude.{◌≡◌, ◌↔◌, IsTrue, ℤ, pos, negs
 ghost use Rattle.homeo_meaning.specs.Small.{IsSmall};
 ghost use Rattle.homeo_plan.specs.FormSizes.{Numbers};
 ghost use Rattle.homeo_plan.specs.Linear.{AreInOrder, constant_form, delta_form, add_forms, scale_form, multiply_forms, mix_forms, is_pure, add_deltas, support};
+ghost use Rattle.homeo_plan.specs.Needs.{remote};
 ghost use Rattle.homeo_plan.specs.PlanView.{plain_linear};
 ghost use Rattle.homeo_plan.specs.Limit.{form_limit};
 ghost use Rattle.homeo_follow.specs.Follow.{object_form, gain};
@@ -273,6 +274,18 @@ impl Form {
         let mut deltas = deltas::copied(alloc, self.mixed.as_slice())?;
         push_deltas_of(&mut deltas, self.terms.as_slice())?;
         deltas::in_order(alloc, deltas)
+    }
+
+    /// The deltas of other sites than this one in the form, mixed or not, in order.
+    ///
+    /// # Errors
+    ///
+    /// `Memory` when out of memory.
+    pub fn remote(&self, alloc: Global, site: u32) -> Result<Vec<Delta>, Memory>
+        ensures { IfOk result (λ v. v.items ≡ remote site (support self.now)) }
+    {
+        let deltas = self.support(alloc)?;
+        deltas::remote(alloc, site, deltas.as_slice())
     }
 
     /// Puts each delta of the form, mixed or not, behind others, in no order. Put in order, each once, they are the others with

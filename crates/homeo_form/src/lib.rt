@@ -12,7 +12,7 @@ mod standing;
 mod terms;
 
 pub use checked::checked_form;
-pub use deltas::in_order as deltas_in_order;
+pub use deltas::{in_order as deltas_in_order, push_written};
 pub use expressions::{difference as expression_difference, form as expression_form};
 pub use form::Form;
 pub use standing::Standing;

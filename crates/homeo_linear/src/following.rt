@@ -1,20 +1,20 @@
 //! Residuals that are followed from command to command.
 
-ghost use Rattle.std.specs.Prelude.{◌≡◌, ◌==◌, not, [], map, IfOk, OnOk};
+ghost use Rattle.std.specs.Prelude.{◌≡◌, [], map, IfOk, OnOk};
 ghost use Rattle.homeo_syntax.specs.Low.{Commands, MoreCommand, NoCommand, Assign, Write, Print};
 ghost use Rattle.homeo_syntax.specs.LowView.{low_commands, plain_lexpr, plain_lcommand};
 ghost use Rattle.homeo_meaning.specs.LowMeaning.{DeltaAt};
 ghost use Rattle.homeo_meaning.specs.Serial.{values_of};
 ghost use Rattle.homeo_meaning.specs.Small.{IsSmall};
 ghost use Rattle.homeo_plan.specs.FormSizes.{CanForm, CanFollow};
-ghost use Rattle.homeo_plan.specs.Linear.{add_deltas, base_forms, support};
-ghost use Rattle.homeo_plan.specs.Needs.{remote, written_needs, add_written, needs, IsStraightOne, IsStraight};
+ghost use Rattle.homeo_plan.specs.Linear.{add_deltas, base_forms};
+ghost use Rattle.homeo_plan.specs.Needs.{written_needs, needs, IsStraightOne, IsStraight};
 ghost use Rattle.homeo_plan.specs.Limit.{form_limit};
 ghost use Rattle.homeo_linear.specs.inner.Following.{needs_of, Followed};
 ghost use Rattle.homeo_split.specs.Places.{plain_place};
 ghost use Rattle.homeo_form.specs.Standing.{forms_of};
 
-use homeo_form::{Form, Standing, deltas_in_order, expression_form};
+use homeo_form::{Standing, deltas_in_order, expression_form, push_written};
 use homeo_plan::Delta;
 use homeo_split::{Place, place_of, place_of_temp};
 use homeo_syntax::{LCommand, LExpr, Memory, SplitName, Temp};
@@ -92,7 +92,7 @@ impl<'a> Following<'a> {
         ensures { OnOk result (Followed self.old self.new (Print (plain_lexpr value.now))) }
     {
         let form = expression_form(alloc, &self.standing, value)?;
-        self.prints.push(remote_of(alloc, self.site, &form)?)?;
+        self.prints.push(form.remote(alloc, self.site)?)?;
         Ok(())
     }
 
@@ -124,7 +124,7 @@ fn written_needs(
     while place > 0 {
         place -= 1;
         let form = standing.form_at(alloc, place_of_delta(&written[place]))?;
-        let deltas = remote_of(alloc, site, &form)?;
+        let deltas = form.remote(alloc, site)?;
         needed.extend_from_slice(deltas.as_slice())?;
     }
     Ok(needed)
@@ -136,53 +136,5 @@ fn place_of_delta(delta: &Delta) -> Place
     Place::Delta {
         object: delta.object,
         site: delta.site,
-    }
-}
-
-/// The deltas of other sites than this one in a form, mixed or not, in order.
-///
-/// # Errors
-///
-/// `Memory` when out of memory.
-pub fn remote_of(alloc: Global, site: u32, form: &Form) -> Result<Vec<Delta>, Memory>
-    ensures { IfOk result (λ v. v.items ≡ remote site (support form.now)) }
-{
-    let deltas = form.support(alloc)?;
-    remote(alloc, site, deltas.as_slice())
-}
-
-fn remote(alloc: Global, site: u32, deltas: &[Delta]) -> Result<Vec<Delta>, Memory>
-    ensures { IfOk result (λ v. v.items ≡ remote site deltas.now) }
-{
-    let mut others = Vec::new(alloc);
-    for delta in deltas {
-        if is_remote(delta, site) {
-            others.push(*delta)?;
-        }
-    }
-    Ok(others)
-}
-
-fn is_remote(delta: &Delta, site: u32) -> bool
-    ensures { result ≡ not (delta.now.site == site) }
-{
-    delta.site != site
-}
-
-/// Puts a delta that is written behind the others. Another name isn't put there.
-///
-/// # Errors
-///
-/// `Memory` when out of memory.
-#[tactic(auto, unfolding(homeo_plan::specs::Key::definitions))]
-pub fn push_written(written: &mut Vec<Delta>, name: SplitName) -> Result<(), Memory>
-    ensures { OnOk result (add_deltas written.new.items [] ≡ add_written name (add_deltas written.old.items [])) }
-{
-    match name {
-        SplitName::Delta { object, site } => {
-            written.push(Delta { object, site })?;
-            Ok(())
-        }
-        SplitName::Whole(_) | SplitName::Base(_) => Ok(()),
     }
 }

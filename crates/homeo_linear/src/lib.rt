@@ -9,6 +9,5 @@ mod formulas;
 mod residuals;
 
 pub use course::Follower;
-pub use following::{push_written, remote_of};
 pub use formulas::atoms;
 pub use residuals::needs;

@@ -18,7 +18,6 @@ use crate::table::ClauseTable;
 use homeo_cert_reader::Freezes;
 use homeo_certificate::Fault;
 use homeo_form::Form;
-use homeo_linear::remote_of;
 use homeo_plan::{Delta, Linear};
 use homeo_syntax::{Compare, SplitName};
 use std::alloc::Global;
@@ -48,7 +47,7 @@ impl<'a> Rules<'a> {
     pub(crate) fn freeze_remote(&self, alloc: Global, form: &Form) -> Result<(), Stop>
         ensures { Finds (not_frozen (plain_rules self.now) (remote_deltas (plain_rules self.now) form.now)) result }
     {
-        let remote = remote_of(alloc, self.site, form)?;
+        let remote = form.remote(alloc, self.site)?;
         self.freeze(remote.as_slice())
     }
 

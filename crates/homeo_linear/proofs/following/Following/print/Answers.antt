@@ -9,5 +9,5 @@ pub returns : goal.returns
 returns c =
     printed c.args.self.now
     (record { site = c.args.self.now.site; standing = c.args.self.now.standing; written = c.args.self.now.written; prints = c.push.new.self })
-    (plain_lexpr c.args.value.now) c.in_ok-form.form c.in_ok-form.ensures refl c.in_ok-remote_of.field-0.items c.in_ok-remote_of.ensures refl
-    (ap (map (λ p. p.items)) c.in_ok-push.ensures.items ∙ map_push (λ p. p.items) c.args.self.now.prints.items c.in_ok-remote_of.field-0) refl
+    (plain_lexpr c.args.value.now) c.in_ok-form.form c.in_ok-form.ensures refl c.in_ok-remote.field-0.items c.in_ok-remote.ensures refl
+    (ap (map (λ p. p.items)) c.in_ok-push.ensures.items ∙ map_push (λ p. p.items) c.args.self.now.prints.items c.in_ok-remote.field-0) refl

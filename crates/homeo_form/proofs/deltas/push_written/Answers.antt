@@ -1,6 +1,6 @@
 -- A delta is one more.
-use Rattle.homeo_linear.proofs.Needing.{written_more}
-use Rattle.homeo_linear.proofs.following.push_written.Goals as goal
+use Rattle.homeo_form.proofs.DeltasBySite.{written_more}
+use Rattle.homeo_form.proofs.deltas.push_written.Goals as goal
 
 pub returns-in_ok-push-in-Delta : goal.returns-in_ok-push-in-Delta
 returns-in_ok-push-in-Delta c =

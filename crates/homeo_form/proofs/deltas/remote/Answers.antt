@@ -1,9 +1,9 @@
 -- A delta of another site is kept.
 use Rattle.std.proofs.Common.{◌++◌, ◌+◌, drop, ap, ◌∙◌}
 use Rattle.homeo_plan.specs.Needs.{remote}
-use Rattle.homeo_linear.proofs.Needing.{remote_more, remote_less, remote_end}
-use Rattle.homeo_linear.proofs.following.remote.Goals as goal
-use Rattle.homeo_linear.proofs.following.remote.Goals.{then-is_remote+in_ok-push, else-is_remote}
+use Rattle.homeo_form.proofs.DeltasBySite.{remote_more, remote_less, remote_end}
+use Rattle.homeo_form.proofs.deltas.remote.Goals as goal
+use Rattle.homeo_form.proofs.deltas.remote.Goals.{then-is_remote+in_ok-push, else-is_remote}
 
 pub loop-delta-preserved : goal.loop-delta-preserved
 loop-delta-preserved c =
