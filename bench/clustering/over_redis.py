@@ -5,6 +5,8 @@ Where the file loses its end, all that the server keeps goes back to one moment:
 may be made anew. So of the answers that a client had seen before, those count that its site still knows of then.
 """
 import collections
+import contextlib
+import os
 import pathlib
 import random
 import signal
@@ -76,11 +78,9 @@ class Runner:
     def kill_node(self):
         """Kills the runner's node, if it is there."""
         children = pathlib.Path(f"/proc/{self.process.pid}/task/{self.process.pid}/children")
-        try:
+        with contextlib.suppress(OSError):
             for it in children.read_text().split():
-                subprocess.run(["kill", "-9", it], stderr=subprocess.DEVNULL, check=False)
-        except OSError:
-            pass
+                os.kill(int(it), signal.SIGKILL)
 
 
 class Heard(caller.Streams):

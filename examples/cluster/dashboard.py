@@ -64,7 +64,8 @@ def sites(body):
     for it in body["sites"]:
         made = calls.get(it["site"], {"local": 0, "closing": 0, "at_once": 0})
         answered = made["local"] + made["closing"]
-        rows.append([it["site"], mode(it), it.get("round", "-"), it.get("waiting", "-"), answered, made["closing"], status.share(made["at_once"], answered), it["restarts"]])
+        at_once = status.share(made["at_once"], answered)
+        rows.append([it["site"], mode(it), it.get("round", "-"), it.get("waiting", "-"), answered, made["closing"], at_once, it["restarts"]])
     return table(["site", "is", "round", "calls that wait", "answered", "of them closed a round", "at once", "restarts"], rows)
 
 
@@ -76,7 +77,8 @@ def mode(site):
 
 def by_object(reasons):
     most = max((it.count for it in reasons), default=0)
-    return table(["object", "closings", "", "asked of it now, and the rules of docs/LOCALITY.md"], [[escaped(it.subject), it.count, bar(it.count, most), why(it)] for it in reasons])
+    rows = [[escaped(it.subject), it.count, bar(it.count, most), why(it)] for it in reasons]
+    return table(["object", "closings", "", "asked of it now, and the rules of docs/LOCALITY.md"], rows)
 
 
 def why(reason):

@@ -22,7 +22,8 @@ def page(body):
     found, sites = Page(), body["sites"]
     of = lambda it, **more: {"site": it["site"], **more}
     seen = [it for it in sites if "round" in it]
-    found.add("site_answers", "gauge", "Whether the site tells its status.", [(of(it), int(it in seen and it.get("has_runner", True))) for it in sites])
+    answering = [(of(it), int(it in seen and it.get("has_runner", True))) for it in sites]
+    found.add("site_answers", "gauge", "Whether the site tells its status.", answering)
     found.add("site_running", "gauge", "Whether the site answers calls alone now.", [(of(it), int(it["mode"] == "running")) for it in seen])
     found.add("site_round", "gauge", "The round of the site.", [(of(it), it["round"]) for it in seen])
     found.add("site_waiting_calls", "gauge", "Calls that wait at the site.", [(of(it), it["waiting"]) for it in seen])

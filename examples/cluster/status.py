@@ -51,16 +51,16 @@ class Kept:
 
     def told_now(self):
         objects, found = self.engine.seen()
-        sites = [
-            {"site": site, "restarts": told["restarts"] if told else 0, "has_runner": bool(told), **(node_of(objects, state) if state else {"mode": "silent"})}
-            for site, (state, told) in enumerate(found)
-        ]
+        sites = [site_of(objects, site, state, told) for site, (state, told) in enumerate(found)]
         return {"sites": sites, "sum": counts.sum_of(sites), **counts.together([told for _, told in found if told])}
 
 
-def node_of(objects, state):
-    """What a node would tell that has this state."""
-    return counts.of_node({**state, "waiting": len(state["queue"]), "base": dict(zip(objects, state["base"]))})
+def site_of(objects, site, state, told):
+    """What a node would tell that has this state, and its runner."""
+    found = {"site": site, "restarts": told["restarts"] if told else 0, "has_runner": bool(told)}
+    if not state:
+        return found | {"mode": "silent"}
+    return found | counts.of_node({**state, "waiting": len(state["queue"]), "base": dict(zip(objects, state["base"]))})
 
 
 def found(cluster, redis=None):

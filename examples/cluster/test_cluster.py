@@ -217,7 +217,8 @@ class Tests(unittest.TestCase):
 
     def test_advice(self):
         text = (FOLDER.parent / "concert.homeo").read_text()
-        told = lambda seats: [(it.subject, it.count, it.words, it.rules) for it in advice.reasons(text, {"sell(4)": 3, "give_back(2)": 1}, {"seats": seats})]
+        closings = {"sell(4)": 3, "give_back(2)": 1}
+        told = lambda seats: [(it.subject, it.count, it.words, it.rules) for it in advice.reasons(text, closings, {"seats": seats})]
         moves = "seats may not rise; give_back(2) at 0 (+2) closes a round at once"
         self.assertEqual(told(1), [("seats", 4, moves, ("A number that starts at its bound has no slack",))])
         moves = "seats may fall by 17 in all, site 0 by 8, site 1 by 6, site 2 by 3; room for 1 call such as sell(4) at 1 (-4)"

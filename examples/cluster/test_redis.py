@@ -97,7 +97,8 @@ class Tests(unittest.TestCase):
                 hall.call("buy", 3)
             with self.assertRaises(NotListed), self.caller("nobody") as nobody:
                 nobody.call("buy", 1)
-        asked = subprocess.run(command("ask.py", "--redis", self.server.address, "shops", "web", "buy(4)"), capture_output=True, text=True, timeout=60)
+        words = command("ask.py", "--redis", self.server.address, "shops", "web", "buy(4)")
+        asked = subprocess.run(words, capture_output=True, text=True, timeout=60)
         self.assertEqual((asked.returncode, asked.stdout), (0, "buy(4): 4   local, round 1\n"))
 
     def test_nodes_and_runners_that_are_killed(self):

@@ -5,7 +5,6 @@ import signal
 import subprocess
 import sys
 import tempfile
-import time
 import unittest
 
 sys.dont_write_bytecode = True
@@ -17,7 +16,8 @@ from table_engine import TableEngine
 
 FOLDER = pathlib.Path(__file__).resolve().parent
 TICKETS = FOLDER.parent / "tickets.homeo"
-RUN = f"import sys, pathlib; sys.path.insert(0, {str(FOLDER)!r}); sys.dont_write_bytecode = True; import turns; from table_engine import TableEngine\n"
+RUN = f"import sys, pathlib; sys.dont_write_bytecode = True; sys.path.insert(0, {str(FOLDER)!r})\n"
+RUN += "import turns; from table_engine import TableEngine\n"
 RUN += "turns.run(pathlib.Path(sys.argv[1]), TableEngine(sys.argv[2]), int(sys.argv[3]))"
 
 
