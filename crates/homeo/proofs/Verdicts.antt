@@ -13,7 +13,7 @@ use Rattle.homeo_reader.proofs.SpelledNames.{well_formed}
 use Rattle.homeo_certificate.specs.Verdict.{IsVerdictOn}
 use Rattle.homeo_certificate.specs.declared.verdict.Verdict.{Verdict}
 use Rattle.homeo_certificate.specs.declared.verdict.Verdict.TheVariants as v
-use Rattle.homeo_certified.proofs.CertifiedTexts.{certified_texts_are_valid}
+use Rattle.homeo_certified.proofs.CertifiedTexts.{text_names, certified_texts_are_valid}
 use Rattle.homeo_certificate.proofs.Soundness.{valid_text_is_sound}
 use Rattle.homeo_commands.specs.Certified.{first_certificate, unended, verdict_text}
 use Rattle.homeo_commands.proofs.Decided.{told_is_given}
@@ -28,7 +28,8 @@ accepted_for_treaty text w accepts = record { well_formed = well_formed text w a
 first_is_valid : (text : List ℕ) (w : s.Workload) (verdict : Verdict) → Accepts text purpose.Treaty w → IsVerdictOn (first_certificate w) verdict → verdict ≡ v.Valid
 first_is_valid text w verdict accepts on =
     let accepted = accepted_for_treaty text w accepts in
-    certified_texts_are_valid text w (initial w) (policy w (initial w)) accepts.reads (omega (arith, accepts.short)) accepted (sound w accepted).starts
+    let names = text_names text w accepts.reads in
+    certified_texts_are_valid text w (initial w) (policy w (initial w)) accepts.reads (omega (arith, names, accepts.short)) accepted (sound w accepted).starts
     (policy_fits w (initial w) accepted) verdict on
 
 pub made_is_valid : MadeIsValid

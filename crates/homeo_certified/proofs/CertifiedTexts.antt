@@ -93,7 +93,7 @@ names_few names (t ∷ ts) =
 own_names : (v : Version) (names : List (List ℕ)) → Sound (Means rule limit) (λ t. Unit {0}) (rules.workload v names) (λ w. length w.names ≤ length names)
 own_names v names = sound_as _ _ _ _ (λ x. Unit {0}) (λ w. length w.names ≤ length names) (any _) (λ p h. omega arith)
 
-text_names : (text : List ℕ) (w : s.Workload) → Reads text w → length w.names ≤ length text
+pub text_names : (text : List ℕ) (w : s.Workload) → Reads text w → length w.names ≤ length text
 unfolding IsWorkload FewIf
 text_names text w r =
     let h : length w.names ≤ length (names_of r.scanned) = (own_names _ (names_of r.scanned)).of w _ r.spells (fine _) in
@@ -102,7 +102,7 @@ text_names text w r =
     omega (arith, h, k, m)
 
 -- ---- certificates
-module _ (text : List ℕ) (w : s.Workload) (base : List ℤ) (reads : Reads text w) (short : length text ≤ 2 ^ 32) (accepted : IsAccepted w) where
+module _ (text : List ℕ) (w : s.Workload) (base : List ℤ) (reads : Reads text w) (few : length w.names ≤ 2 ^ 32) (accepted : IsAccepted w) where
   all_nest : (gs : List Ground) → Each (λ (g : PlannedCall). nesting g.command ≤ 998) (map (planned_call w) gs)
   unfolding plan_definitions
   all_nest [] = tt
@@ -119,12 +119,10 @@ module _ (text : List ℕ) (w : s.Workload) (base : List ℤ) (reads : Reads tex
       (v : Verdict) → IsVerdictOn (text_of (certificate_of w base config)) v → v ≡ verdict.Valid
   unfolding plan_definitions
   certified_is_valid config within fits =
-      let names = text_names text w reads in
-      only_valid w base config accepted within fits
-      (calls_in_shape w accepted base within few_sites (omega (arith, names, short)) (all_nest (grounds w)))
+      only_valid w base config accepted within fits (calls_in_shape w accepted base within few_sites few (all_nest (grounds w)))
 
 pub certified_texts_are_valid :
-    (text : List ℕ) (w : s.Workload) (base : List ℤ) (config : Config) → Reads text w → length text ≤ 2 ^ 32 → IsAccepted w →
+    (text : List ℕ) (w : s.Workload) (base : List ℤ) (config : Config) → Reads text w → length w.names ≤ 2 ^ 32 → IsAccepted w →
     IsWithin (schema_of w) base → Fits (sites_of w) (template_at w base).clauses config →
     (v : Verdict) → IsVerdictOn (text_of (certificate_of w base config)) v → v ≡ verdict.Valid
-certified_texts_are_valid text w base config reads short accepted within fits = certified_is_valid text w base reads short accepted config within fits
+certified_texts_are_valid text w base config reads few accepted within fits = certified_is_valid text w base reads few accepted config within fits

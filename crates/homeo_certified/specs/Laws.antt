@@ -19,9 +19,9 @@ CertifiedHasNoFault =
     (w : s.Workload) (base : List ℤ) (config : Config) → IsAccepted w → IsWithin (schema_of w) base →
     Fits (sites_of w) (template_at w base).clauses config → verdict_of (certificate_of w base config) ≡ Valid
 
--- where a text reads as the workload, no other verdict is true of the certificate's text
+-- where a text reads as the workload, and its names can be numbered in 32 bits, no other verdict is true of the certificate's text
 abbrev pub CertifiedIsValid : Type 0
 CertifiedIsValid =
-    (source : List ℕ) (w : s.Workload) (base : List ℤ) (config : Config) → Reads source w → length source ≤ 2 ^ 32 → IsAccepted w →
+    (source : List ℕ) (w : s.Workload) (base : List ℤ) (config : Config) → Reads source w → length w.names ≤ 2 ^ 32 → IsAccepted w →
     IsWithin (schema_of w) base → Fits (sites_of w) (template_at w base).clauses config →
     (v : Verdict) → IsVerdictOn (text_of (certificate_of w base config)) v → v ≡ Valid

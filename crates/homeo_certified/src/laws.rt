@@ -7,7 +7,8 @@ pub fn certified_rounds_have_no_fault()
     ensures { CertifiedHasNoFault }
 {}
 
-/// Where a text reads as the workload, no verdict but that it is valid is true of the certificate's text.
+/// Where a text reads as the workload, and its names can be numbered in 32 bits, no verdict but that it is valid is true of the
+/// certificate's text.
 pub fn certified_rounds_are_valid()
     ensures { CertifiedIsValid }
 {}
