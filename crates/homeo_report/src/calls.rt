@@ -1,19 +1,18 @@
 //! Appending calls and entries.
 #![tactic(auto, using(homeo_syntax::proofs::SourceViews::workload_views), unfolding(crate::specs::Key::definitions, homeo_meaning::specs::Key::definitions))]
 
-ghost use Rattle.std.specs.Prelude.{◌≡◌, ◌++◌, map, IfOk, OnOk, option_map, slice_get};
+ghost use Rattle.std.specs.Prelude.{◌≡◌, ◌++◌, map, OnOk, option_map, slice_get};
 ghost use Rattle.std.specs.Option.{option_copied};
 ghost use Rattle.homeo_syntax.specs.SourceView.{plain_call, plain_workload};
 ghost use Rattle.homeo_meaning.specs.Serial.{arguments, numbered, call_of};
 ghost use Rattle.homeo_history.specs.HistoryView.{plain_entry};
+ghost use Rattle.homeo_print.specs.Calls.{more_arguments_text, arguments_text, call_text};
 ghost use Rattle.homeo_report.specs.Report.{client_text, made_text, entry_line};
 
-use homeo_context::argument_values;
 use homeo_history::Entry;
 use homeo_meaning::CallId;
-use homeo_print::{name_of, push_byte, push_bytes, push_call, push_number, push_numbers};
-use homeo_syntax::{Call, Client, Memory, Workload};
-use std::alloc::Global;
+use homeo_print::{name_of, push_byte, push_bytes, push_number, push_numbers, push_signed};
+use homeo_syntax::{Call, Client, Memory, Number, Workload};
 
 fn client_of(w: &Workload, id: CallId) -> Option<&Client>
     ensures { option_copied result ≡ slice_get w.now.clients.items id.client }
@@ -58,12 +57,42 @@ fn call_of(w: &Workload, id: CallId) -> Option<&Call>
     }
 }
 
-/// The arguments of a call.
-#[tactic(auto, unfolding(homeo_syntax::specs::Key::definitions))]
-fn arguments_of(alloc: Global, call: &Call) -> Result<Vec<i64>, Memory>
-    ensures { IfOk result (λ args. args.items ≡ arguments (plain_call call.now)) }
+/// Appends the values of arguments, each behind a comma and a space.
+#[tactic(auto, unfolding(homeo_print::specs::Key::definitions))]
+fn push_more_values(out: &mut Vec<u8>, args: &[Number]) -> Result<(), Memory>
+    ensures { OnOk result (out.new.items ≡ out.old.items ++ more_arguments_text (map (λ a. a.value) args.now)) }
 {
-    argument_values(alloc, call.args.as_slice())
+    for argument in args {
+        push_bytes(out, b", ")?;
+        push_signed(out, argument.value)?;
+    }
+    Ok(())
+}
+
+/// Appends the values of arguments, with a comma and a space between each two.
+#[tactic(auto, unfolding(homeo_print::specs::Key::definitions))]
+fn push_values(out: &mut Vec<u8>, args: &[Number]) -> Result<(), Memory>
+    ensures { OnOk result (out.new.items ≡ out.old.items ++ arguments_text (map (λ a. a.value) args.now)) }
+{
+    match args {
+        [] => Ok(()),
+        [first, more @ ..] => {
+            push_signed(out, first.value)?;
+            push_more_values(out, more)
+        }
+    }
+}
+
+/// Appends a call, with no list of its arguments' values.
+#[tactic(auto, unfolding(homeo_print::specs::Key::definitions, homeo_syntax::specs::Key::definitions))]
+fn push_call(out: &mut Vec<u8>, w: &Workload, call: &Call) -> Result<(), Memory>
+    ensures { OnOk result (out.new.items
+        ≡ out.old.items ++ call_text (plain_workload w.now) (plain_call call.now).name (arguments (plain_call call.now))) }
+{
+    push_bytes(out, name_of(w, call.name))?;
+    push_byte(out, b'(')?;
+    push_values(out, call.args.as_slice())?;
+    push_byte(out, b')')
 }
 
 /// Appends a client's call, and nothing where there is no such call.
@@ -71,10 +100,7 @@ fn push_made(out: &mut Vec<u8>, w: &Workload, id: CallId) -> Result<(), Memory>
     ensures { OnOk result (out.new.items ≡ out.old.items ++ made_text (plain_workload w.now) id) }
 {
     match call_of(w, id) {
-        Some(call) => {
-            let args = arguments_of(*out.allocator(), call)?;
-            push_call(out, w, call.name, args.as_slice())
-        }
+        Some(call) => push_call(out, w, call),
         None => Ok(()),
     }
 }
