@@ -90,6 +90,12 @@ pub record IsCallMade (w : s.Workload) (b : BookState) (sites : List SiteState) 
   pub states : sites' ≡ sites_after w b sites home site call (step_finding w site call)
   pub answer : a ≡ answer_to w b sites home site call (step_finding w site call)
 
+-- it was made so, with some answer
+pub record WasCallMade (w : s.Workload) (b : BookState) (sites : List SiteState) (home : ℕ) (call : CallId)
+    (b' : BookState) (sites' : List SiteState) : Type 0 where
+  pub answer : Answer
+  pub made : IsCallMade w b sites home call answer b' sites'
+
 -- a client's next call was made, at the client's site, and this is its answer
 pub record IsStep (x : CoreValue) (client : ℕ) (a : Answer) (x' : CoreValue) : Type 0 where
   pub home : ℕ
@@ -97,6 +103,11 @@ pub record IsStep (x : CoreValue) (client : ℕ) (a : Answer) (x' : CoreValue) :
   pub made : IsCallMade (plain_workload x.work) x.book x.sites home (next_call x client) a x'.book x'.sites
   pub work : x'.work ≡ x.work
   pub counts : x'.counts ≡ slice_set x.counts client (suc (slice_index_or x.counts client 0))
+
+-- it was made so, with some answer
+pub record IsSomeStep (x : CoreValue) (client : ℕ) (x' : CoreValue) : Type 0 where
+  pub answer : Answer
+  pub step : IsStep x client answer x'
 
 -- each list of calls that the history h followed is followed, with this call at its end, by the history h'
 abbrev pub GoesOnBy : s.Workload → History → CallId → History → Type 0

@@ -12,7 +12,7 @@ ghost use Rattle.homeo_build.specs.Plan.{IsObjectPlan};
 ghost use Rattle.homeo_history.specs.Follows.{Follows};
 ghost use Rattle.homeo_history.specs.HistoryView.{plain_answer, plain_history};
 ghost use Rattle.homeo_history.specs.Legal.{IsCallAt, call_count, IsLegalFrom};
-ghost use Rattle.homeo_core.specs.CoreView.{begun_sites, core_at, core_history, start_of, next_call, GoesOnBy, IsCallMade, IsStep};
+ghost use Rattle.homeo_core.specs.CoreView.{begun_sites, core_at, core_history, start_of, next_call, GoesOnBy, IsCallMade, WasCallMade, IsStep, IsSomeStep};
 ghost use Rattle.homeo_core.specs.Events.{OneMore};
 ghost use Rattle.homeo_core.specs.Joined.{AreJoined};
 ghost use Rattle.homeo_core.specs.Books.{book_of};
@@ -26,7 +26,7 @@ use homeo_eval::initial;
 use homeo_history::{Answer, History, Path, Round};
 use homeo_meaning::{Accepted, CallId, Database};
 use homeo_outline::ObjectPlan;
-use homeo_round::{Tried, try_call};
+use homeo_round::{Tried, try_call, try_unasked};
 use homeo_site::{Site, SiteStart};
 use homeo_syntax::{List, Memory};
 use std::alloc::Global;
@@ -187,6 +187,40 @@ impl Core {
         self.counts[client as usize] = seq;
         Ok(answer)
     }
+
+    /// Makes the next call of a client as `step` does, where nobody asks for the answer: what it prints stands in the history alone.
+    ///
+    /// # Errors
+    ///
+    /// `Memory` when out of memory. The core is as it was.
+    pub fn step_unasked(&mut self, alloc: Global, client: u32) -> Result<(), Memory>
+        requires exists { client < length (plain_workload self.old.work).clients }
+        requires left { slice_index_or self.old.counts client 0 < call_count (plain_workload self.old.work) client }
+        ensures step { OnOk result (IsSomeStep self.old client self.new) }
+        ensures follows { OnOk result (GoesOnBy (plain_workload self.old.work) (core_history self.old) (next_call self.old client)
+            (core_history self.new)) }
+        ensures legal { IsLegalFrom (plain_workload self.old.work) (start_of self.old.book) self.new.counts (core_history self.new) }
+        ensures start { start_of self.new.book ≡ start_of self.old.book }
+        ensures unchanged { OnErr result (self.new ≡ self.old) }
+    {
+        let home = site_of(self.compiled.workload(), client);
+        let last = self.counts[client as usize];
+        prove!(last < call_count(self.compiled.workload(), client));
+        make_unasked(
+            alloc,
+            &self.compiled,
+            &mut self.closed,
+            &mut self.base,
+            self.sites.as_mut_slice(),
+            home,
+            CallId {
+                client,
+                seq: last + 1,
+            },
+        )?;
+        self.counts[client as usize] = last + 1;
+        Ok(())
+    }
 }
 
 /// Makes a call at its site where it keeps the site's treaty, and else closes the round by it.
@@ -223,6 +257,40 @@ fn make_call(
             prints,
         }),
         Tried::Refused(broken) => close_round(alloc, c, closed, base, sites, call, broken),
+    }
+}
+
+/// Makes a call so, where nobody asks for the answer.
+#[tactic(auto, unfolding(homeo_round::specs::Key::definitions, crate::specs::Key::definitions))]
+fn make_unasked(
+    alloc: Global,
+    c: &Arc<Compiled>,
+    closed: &mut List<Round>,
+    base: &mut Database,
+    sites: &mut [Site],
+    home: u32,
+    call: CallId,
+) -> Result<(), Memory>
+    requires accepted { IsAccepted (plain_workload c.now.value) }
+    requires of { AreOf c.now.value sites.old }
+    requires joined { let b = book_of closed.old.items base.old.items in
+        AreJoined (plain_workload c.now.value) (start_of b) b (states sites.old) }
+    requires at_home { IsCallAt (plain_workload c.now.value) home call }
+    ensures made { OnOk result (WasCallMade (plain_workload c.now.value) (book_of closed.old.items base.old.items) (states sites.old)
+        home call (book_of closed.new.items base.new.items) (states sites.new)) }
+    ensures of { AreOf c.now.value sites.new }
+    ensures unclosed { OnErr result (closed.new.items ≡ closed.old.items) }
+    ensures unmoved { OnErr result (base.new ≡ base.old) }
+    ensures unchanged { OnErr result (states sites.new ≡ states sites.old) }
+{
+    let site = &mut sites[home as usize];
+    let finding = try_unasked(alloc, site, call)?;
+    match finding {
+        None => Ok(()),
+        Some(broken) => {
+            close_round(alloc, c, closed, base, sites, call, broken)?;
+            Ok(())
+        }
     }
 }
 

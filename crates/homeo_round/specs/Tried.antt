@@ -1,7 +1,8 @@
 -- What a site did with a call.
-use Rattle.std.specs.Prelude.{◌≡◌, Some}
+use Rattle.std.specs.Prelude.{◌≡◌, Option, Some, None}
 use Rattle.homeo_syntax.specs.Source as s
 use Rattle.homeo_meaning.specs.declared.call.CallId.{CallId}
+use Rattle.homeo_plan.specs.declared.treaty.Broken.{Broken}
 use Rattle.homeo_site.specs.SiteState.{SiteState, KeepsCall, step_prints, step_finding, after_local}
 use Rattle.homeo_round.specs.Key.{definitions}
 use Rattle.homeo_round.specs.declared.local.Tried.{Tried}
@@ -17,3 +18,14 @@ abbrev pub after_try : s.Workload → SiteState → CallId → Tried → SiteSta
 unfolding definitions
 after_try w x call (Made prints) = after_local w x call
 after_try w x call (Refused broken) = x
+
+-- the same where nobody asks for its prints: what fails first, or nothing where it was made
+abbrev pub IsTriedUnasked : s.Workload → SiteState → CallId → Option Broken → Type 0
+unfolding definitions
+IsTriedUnasked w x call None = KeepsCall w x call
+IsTriedUnasked w x call (Some broken) = step_finding w x call ≡ Some broken
+
+abbrev pub after_unasked : s.Workload → SiteState → CallId → Option Broken → SiteState
+unfolding definitions
+after_unasked w x call None = after_local w x call
+after_unasked w x call (Some broken) = x

@@ -3,6 +3,8 @@
 
 mod gather;
 mod local;
+mod unasked;
 
 pub use gather::{Gather, Gathered, add_deltas};
 pub use local::{Tried, try_call};
+pub use unasked::try_unasked;

@@ -59,7 +59,7 @@ pub fn steps_from(alloc: Global, c: &Arc<Compiled>, base: Database) -> Result<Hi
     let clients = client_places(alloc, w)?;
     let mut core = Core::begin_at(alloc, Arc::try_clone(c)?, base)?;
     for name in order(w) {
-        core.step(alloc, clients.get(name.name) as u32)?;
+        core.step_unasked(alloc, clients.get(name.name) as u32)?;
     }
     core.finish(alloc)
 }

@@ -77,20 +77,20 @@ overflow_cast-get c =
     let few = (whole e).few in
     omega (arith, below, few)
 
-pub step-requires-clause-exists : goal.step-requires-clause-exists
-step-requires-clause-exists c =
-    subst (λ (v : s.Workload). c.get.result < length v.clients) (sym c.loop-name.invariant.work) (there (goal.at.step-requires-clause-exists c).After-get)
+pub step_unasked-requires-clause-exists : goal.step_unasked-requires-clause-exists
+step_unasked-requires-clause-exists c =
+    subst (λ (v : s.Workload). c.get.result < length v.clients) (sym c.loop-name.invariant.work) (there (goal.at.step_unasked-requires-clause-exists c).After-get)
 
-pub step-requires-clause-left : goal.step-requires-clause-left
-step-requires-clause-left c =
-    let e = (goal.at.step-requires-clause-left c).After-get in
+pub step_unasked-requires-clause-left : goal.step_unasked-requires-clause-left
+step_unasked-requires-clause-left c =
+    let e = (goal.at.step_unasked-requires-clause-left c).After-get in
     left_next (plain_workload c.args.c.now.value) c.args.base.items c.loop-name.core c.order-name-items.result.now c.loop-name.name-index (name_at e) c.get.result c.loop-name.invariant (whole e) (order_is e) c.loop-name-test.true (read e) (place_is e)
 
 pub loop-name-preserved : goal.loop-name-preserved
 loop-name-preserved c =
     let e = (goal.at.loop-name-preserved c).After-get in
-    made_next (plain_workload c.args.c.now.value) c.args.base.items c.loop-name.core c.step.new.self _ c.order-name-items.result.now c.loop-name.name-index (name_at e) c.get.result c.loop-name.invariant (whole e) (order_is e) c.loop-name-test.true (read e) (place_is e)
-    c.in_ok-step.ensures.step c.in_ok-step.ensures.start c.in_ok-step.ensures.follows
+    made_next (plain_workload c.args.c.now.value) c.args.base.items c.loop-name.core c.step_unasked.new.self _ c.order-name-items.result.now c.loop-name.name-index (name_at e) c.get.result c.loop-name.invariant (whole e) (order_is e) c.loop-name-test.true (read e) (place_is e)
+    c.in_ok-step_unasked.ensures.step.step c.in_ok-step_unasked.ensures.start c.in_ok-step_unasked.ensures.follows
 
 -- ---- after the last name
 made : (c : After-finish) → HasMade (plain_workload c.args.c.now.value) c.args.base.items (order_of (plain_workload c.args.c.now.value).schedule) c.loop-name.core
