@@ -71,9 +71,16 @@ class RedisEngine(Engine):
         except (faults.AuthenticationError, faults.NoPermissionError) as fault:
             raise Barred(f"{self.server} doesn't let this in: {fault}") from None
         except (faults.ConnectionError, faults.TimeoutError, OSError) as fault:
+            self.drop()
             raise Lost(f"Redis isn't reached at {self.server}: {fault}") from None
         except faults.RedisError as fault:
             raise Lost(f"Redis at {self.server} says: {fault}") from None
+
+    def drop(self):
+        """Ends all connections, since on one that failed an answer may still be on its way."""
+        self.redis.connection_pool.disconnect()
+        self.turn.watching = False
+        self.turn.reset()
 
     # ---- the cluster
     def begin(self, text, objects):
