@@ -1,6 +1,6 @@
 //! A node that runs by itself.
 
-ghost use Rattle.std.specs.Prelude.{◌≡◌, ◌<◌, ◌==◌, ◌%◌, ◌&&◌, not, ◌∷◌, ◌++◌, [], Some, None, is_some, true, IsTrue, length, map, option_map, slice_index_or, IfOk, IfSome, IsSome, OnOk, OnErr};
+ghost use Rattle.std.specs.Prelude.{◌≡◌, ◌<◌, ◌==◌, All, ◌%◌, ◌&&◌, not, ◌∷◌, ◌++◌, [], Some, None, is_some, true, IsTrue, length, map, option_map, slice_index_or, IfOk, IfSome, IsSome, OnOk, OnErr};
 ghost use Rattle.homeo_syntax.specs.SourceView.{plain_workload};
 ghost use Rattle.homeo_plan.specs.Planned.{sites_of};
 ghost use Rattle.homeo_history.specs.Legal.{IsCallAt};
@@ -146,10 +146,12 @@ impl LiveNode {
         self.planner.compiled()
     }
 
-    /// The number of its site, from 0.
+    /// The number of its site, from 0. The node has a place for what each site says, and the calls that wait are of its own clients.
     pub fn number(&self) -> u32
         ensures number { result ≡ self.now.node.number }
         ensures below { result < sites_of (plain_workload self.now.work) }
+        ensures states { length self.now.node.states ≡ sites_of (plain_workload self.now.work) }
+        ensures calls { All (IsCallAt (plain_workload self.now.work) self.now.node.number) self.now.node.queue }
     {
         self.site.number()
     }
