@@ -2,7 +2,7 @@
 #![tactic(auto)]
 
 mod feed;
-mod frame;
+mod lines;
 mod process;
 mod serving;
 mod shell;
@@ -10,5 +10,4 @@ mod status;
 mod voice;
 
 pub use process::run;
-pub use shell::Shell;
 pub use status::Status;

@@ -2,25 +2,34 @@
 
 use crate::serving::serve;
 use crate::voice::{Voice, place_of};
+use homeo_build::compile::compile;
 use homeo_desk::{Desk, DeskState};
 use homeo_lines::{Body, Catalogue, Head, Init, Line, Message, NO_INIT, Wrong, malformed, read};
+use homeo_meaning::Accepted;
 use homeo_syntax::{Memory, Text};
 use std::alloc::Global;
+use std::sync::Arc;
 
 /// The node of a workload, which is not begun until a line says which one it is.
 #[derive(Drop)]
-pub struct Shell {
+pub(crate) struct Shell {
     voice: Voice,
     desk: Option<Desk>,
 }
 
 impl Shell {
-    /// A shell before any line.
-    pub fn new(alloc: Global, catalogue: Catalogue) -> Shell {
-        Shell {
+    /// The shell of a workload before any line.
+    ///
+    /// # Errors
+    ///
+    /// `Memory` when out of memory.
+    pub(crate) fn of(alloc: Global, w: Accepted) -> Result<Shell, Memory> {
+        let compiled = Arc::new(alloc, compile(alloc, w)?)?;
+        let catalogue = Catalogue::of(alloc, compiled)?;
+        Ok(Shell {
             voice: Voice::new(alloc, catalogue),
             desk: None,
-        }
+        })
     }
 
     /// Takes a line, without its newline, and appends the lines that it gives.
@@ -28,7 +37,12 @@ impl Shell {
     /// # Errors
     ///
     /// `Memory` when out of memory. The shell is to be taken no more.
-    pub fn take(&mut self, alloc: Global, bytes: &[u8], out: &mut Vec<u8>) -> Result<(), Memory> {
+    pub(crate) fn take(
+        &mut self,
+        alloc: Global,
+        bytes: &[u8],
+        out: &mut Vec<u8>,
+    ) -> Result<(), Memory> {
         let Line { head, message } = read(alloc, self.voice.catalogue(), bytes)?;
         match message {
             Message::Wrong(wrong) => self.voice.fail(alloc, &head, wrong, out),
@@ -45,7 +59,7 @@ impl Shell {
     /// # Errors
     ///
     /// `Memory` when out of memory. Some bytes may have been appended.
-    pub fn refuse_long(&self, alloc: Global, out: &mut Vec<u8>) -> Result<(), Memory> {
+    pub(crate) fn refuse_long(&self, alloc: Global, out: &mut Vec<u8>) -> Result<(), Memory> {
         let head = Head {
             from: None,
             number: None,

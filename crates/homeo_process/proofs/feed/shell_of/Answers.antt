@@ -1,0 +1,16 @@
+use Rattle.std.proofs.Common.{◌≡◌, IsErrOf, Err, refl}
+use Rattle.homeo_syntax.specs.declared.workload.Refusal.{Refusal}
+use Rattle.homeo_syntax.specs.SourceView.{plain_workload}
+use Rattle.homeo_accept.specs.declared.texts.TextRefusal.TheVariants as TextRefusal
+use Rattle.homeo_process.proofs.Feeding.{too_long}
+use Rattle.homeo_process.proofs.feed.shell_of.Goals as goal
+
+-- the refusal that an error carries
+refusal_of : {T : Type 0} (told r : Refusal) → IsErrOf {T = T} (Err (TextRefusal.Refused told)) (TextRefusal.Refused r) → told ≡ r
+refusal_of told r is = cc
+
+pub returns-then-text-gt-TEXT_LIMIT-clause-refused : goal.returns-then-text-gt-TEXT_LIMIT-clause-refused
+returns-then-text-gt-TEXT_LIMIT-clause-refused c = λ r is. too_long c.args.text.now _ r c.if-text-gt-TEXT_LIMIT.true refl (refusal_of _ r is)
+
+pub returns-in-Ok-clause-accepted : goal.returns-in-Ok-clause-accepted
+returns-in-Ok-clause-accepted c = (plain_workload c.in_ok-w.w, c.in_ok-w.ensures.accepted)

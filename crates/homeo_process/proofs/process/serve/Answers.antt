@@ -1,0 +1,111 @@
+use Rattle.std.proofs.Common.{rules, ◌≡◌, ◌∙◌, ◌++◌, ℕ, List, [], take, Some, refl, sym, ap, arith, inl, inr}
+use Rattle.std.proofs.KnownBytes.{Consumes-trans, Consumes-nil, Consumes-kept}
+use Rattle.homeo_syntax.specs.declared.workload.Refusal.{Refusal}
+use Rattle.homeo_process.specs.declared.process.Ending.{Ending}
+use Rattle.homeo_process.specs.declared.process.Ending.TheVariants as e
+use Rattle.homeo_process.proofs.Reading.{after_so_far, whole_early, piece_early, end_gave}
+use Rattle.homeo_process.proofs.process.serve.Goals as goal
+
+same_stop : (r q : Refusal) → ◌≡◌ {A = Ending} (e.Refused r) (e.Refused q) → Some r ≡ Some q
+same_stop r q same = cc
+
+pub loop-piece-init : goal.loop-piece-init
+loop-piece-init g c = record {
+  bytes = [];
+  after = c.new-feed.ensures;
+  none = c.new-answers.ensures.items;
+  gave = Consumes-nil _;
+  quiet = λ first. refl;
+  faults = omega arith;
+}
+
+pub returns-then-count-eq0-clause-done : goal.returns-then-count-eq0-clause-done
+returns-then-count-eq0-clause-done g c = λ is.
+    let i = c.loop-piece.invariant in (
+      i.bytes,
+      record { gave = end_gave _ _ _ _ _ _ i.gave c.in-Ok.ensures.bytes.0 c.if-count-eq0.true; at_end = c.in-Ok.ensures.bytes.1 c.if-count-eq0.true (search rules) },
+      c.close.ensures.done i.bytes i.after is,
+    )
+
+pub returns-then-count-eq0-clause-refused : goal.returns-then-count-eq0-clause-refused
+returns-then-count-eq0-clause-refused g c = λ r is.
+    let i = c.loop-piece.invariant in (
+      i.bytes,
+      end_gave _ _ _ _ _ _ i.gave c.in-Ok.ensures.bytes.0 c.if-count-eq0.true,
+      inr (c.in-Ok.ensures.bytes.1 c.if-count-eq0.true (search rules), c.close.ensures.refused i.bytes r i.after is),
+    )
+
+pub returns-then-count-eq0-clause-refused_early : goal.returns-then-count-eq0-clause-refused_early
+returns-then-count-eq0-clause-refused_early g c = λ r is.
+    let i = c.loop-piece.invariant in
+    (i.bytes, end_gave _ _ _ _ _ _ i.gave c.in-Ok.ensures.bytes.0 c.if-count-eq0.true, whole_early i.bytes _ i.after)
+
+pub returns-then-count-eq0-clause-untouched : goal.returns-then-count-eq0-clause-untouched
+returns-then-count-eq0-clause-untouched g c = λ r is. c.loop-piece.invariant.quiet (c.close.ensures.refused_first r is)
+
+pub returns-then-count-eq0-clause-memory : goal.returns-then-count-eq0-clause-memory
+returns-then-count-eq0-clause-memory g c = λ is.
+    let i = c.loop-piece.invariant in
+    (i.bytes, end_gave _ _ _ _ _ _ i.gave c.in-Ok.ensures.bytes.0 c.if-count-eq0.true, whole_early i.bytes _ i.after)
+
+pub returns-then-count-eq0-clause-read_fault : goal.returns-then-count-eq0-clause-read_fault
+returns-then-count-eq0-clause-read_fault g c = λ is. absurd (c.close.ensures.no_fault.0 is)
+
+pub returns-then-count-eq0-clause-write_fault : goal.returns-then-count-eq0-clause-write_fault
+returns-then-count-eq0-clause-write_fault g c = λ is. absurd (c.close.ensures.no_fault.1 is)
+
+pub returns-then-count-eq0-clause-write_rose : goal.returns-then-count-eq0-clause-write_rose
+returns-then-count-eq0-clause-write_rose g c = λ is. absurd (c.close.ensures.no_fault.1 is)
+
+pub returns-in-Err-take-clause-memory : goal.returns-in-Err-take-clause-memory
+returns-in-Err-take-clause-memory g c = λ is.
+    let i = c.loop-piece.invariant in (
+      i.bytes ++ take c.in-Ok.count c.read.new.buf,
+      Consumes-trans _ _ _ _ _ i.gave c.in-Ok.ensures.bytes.0,
+      piece_early i.bytes (take c.in-Ok.count c.read.new.buf) _ i.after (let b = c.in-Ok.ensures.bound in omega (arith, c.read.auto.buf)),
+    )
+
+pub returns-in-Some-clause-refused : goal.returns-in-Some-clause-refused
+returns-in-Some-clause-refused g c = λ r is.
+    let i = c.loop-piece.invariant in (
+      i.bytes ++ take c.in-Ok.count c.read.new.buf,
+      Consumes-trans _ _ _ _ _ i.gave c.in-Ok.ensures.bytes.0,
+      inl (c.in-Ok-take.ensures.stops i.bytes r i.after (c.in-Some.is ∙ same_stop c.in-Some.refusal r is)),
+    )
+
+pub returns-in-Some-clause-refused_early : goal.returns-in-Some-clause-refused_early
+returns-in-Some-clause-refused_early g c = λ r is.
+    let i = c.loop-piece.invariant in (
+      i.bytes ++ take c.in-Ok.count c.read.new.buf,
+      Consumes-trans _ _ _ _ _ i.gave c.in-Ok.ensures.bytes.0,
+      piece_early i.bytes (take c.in-Ok.count c.read.new.buf) _ i.after (let b = c.in-Ok.ensures.bound in omega (arith, c.read.auto.buf)),
+    )
+
+pub returns-in-Some-clause-untouched : goal.returns-in-Some-clause-untouched
+returns-in-Some-clause-untouched g c = λ r is. c.loop-piece.invariant.quiet (c.in-Ok-take.ensures.stops_first c.in-Some.refusal c.in-Some.is)
+
+pub returns-in-Err-write_all-clause-write_fault : goal.returns-in-Err-write_all-clause-write_fault
+returns-in-Err-write_all-clause-write_fault g c = λ is.
+    let i = c.loop-piece.invariant in (
+      i.bytes ++ take c.in-Ok.count c.read.new.buf,
+      Consumes-trans _ _ _ _ _ i.gave c.in-Ok.ensures.bytes.0,
+      after_so_far (i.bytes ++ take c.in-Ok.count c.read.new.buf) _ (c.in-Ok-take.ensures.goes_on i.bytes i.after c.in_default.is),
+    )
+
+pub loop-piece-preserved : goal.loop-piece-preserved
+loop-piece-preserved g c =
+    let i = c.loop-piece.invariant in
+    let slice : c.as_slice.result.now ≡ c.take.new.answers.items = c.as_slice.ensures.value in
+    record {
+      bytes = i.bytes ++ take c.in-Ok.count c.read.new.buf;
+      after = c.in-Ok-take.ensures.goes_on i.bytes i.after c.in_default.is;
+      none = c.clear.ensures.items;
+      gave = Consumes-trans _ _ _ _ _ i.gave c.in-Ok.ensures.bytes.0;
+      quiet = λ first. c.in_default-write_all.ensures.none (slice ∙ c.in-Ok-take.ensures.quiet first ∙ i.none) ∙ i.quiet (c.in-Ok-take.ensures.first first);
+      faults = omega (arith, i.faults, c.write_all.ensures.counted);
+    }
+
+pub returns-clause-read_fault : goal.returns-clause-read_fault
+returns-clause-read_fault g c = λ is.
+    let i = c.loop-piece.invariant in
+    (i.bytes, i.gave, after_so_far i.bytes _ i.after)
