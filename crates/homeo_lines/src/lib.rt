@@ -1,14 +1,17 @@
 //! Lines of JSON: what comes to a node, and what it gives.
-#![tactic(auto)]
+#![tactic(auto, using(crate::proofs::Lists::list_steps))]
 
 mod catalogue;
+pub mod laws;
 mod line;
 mod members;
 mod packets;
+mod packets_writing;
 mod reading;
 mod requests_reading;
 mod state_reading;
 mod state_writing;
+mod status_writing;
 mod writing;
 mod written;
 mod wrong;
@@ -17,4 +20,4 @@ pub use catalogue::Catalogue;
 pub use line::{Head, Init, Line, Message};
 pub use reading::read;
 pub use writing::{Body, write_line};
-pub use wrong::{FULL, LATE, NO_INIT, UNLISTED, Wrong, malformed};
+pub use wrong::{FORMAT, FULL, LATE, NO_INIT, UNLISTED, Wrong, malformed};

@@ -1,7 +1,18 @@
 //! Packets, read from JSON values.
+#![tactic(auto, using(crate::proofs::Lists::list_steps), unfolding(homeo_live::specs::Key::definitions))]
+
+ghost use Rattle.std.specs.Prelude.{◌≡◌, ◌^◌, map, option_map, codes, IfOk};
+ghost use Rattle.std.specs.Option.{option_and_then};
+ghost use Rattle.serde_json.specs.View.{view};
+ghost use Rattle.serde_json.specs.Find.{get};
+ghost use Rattle.homeo_syntax.specs.SourceView.{plain_workload};
+ghost use Rattle.homeo_carry.specs.CarryView.{plain_said};
+ghost use Rattle.homeo_live.specs.LiveView.{plain_packet, plain_past};
+ghost use Rattle.homeo_lines.specs.Members.{whole, below};
+ghost use Rattle.homeo_lines.specs.Read.{finding_of, call_of, named_call_of, breach_of, values_of, database_at, calls_of, calls_in, said_of, stopped_of, all_said, past_of};
 
 use crate::catalogue::Catalogue;
-use crate::members::{items, list, number, small, text, values, wide};
+use crate::members::{integer, items, list, number, small, text, values};
 use homeo_carry::Said;
 use homeo_live::{MOST_WAITING, Packet, Past};
 use homeo_meaning::{CallId, Database};
@@ -12,7 +23,9 @@ use serde_json::Value;
 use std::alloc::Global;
 
 /// The breach whose members an object has.
-pub(crate) fn read_breach(catalogue: &Catalogue, object: &Value) -> Option<Breach> {
+pub(crate) fn read_breach(catalogue: &Catalogue, object: &Value) -> Option<Breach>
+    ensures { result ≡ breach_of (plain_workload catalogue.now) (view object.now) }
+{
     let round = number(object, "round")?;
     let site = small(object, "site")?;
     let call = read_named_call(catalogue, site, object)?;
@@ -26,23 +39,49 @@ pub(crate) fn read_breach(catalogue: &Catalogue, object: &Value) -> Option<Breac
 }
 
 /// The call of a client at a site that the members `client` and `call` name.
-pub(crate) fn read_named_call(catalogue: &Catalogue, site: u32, object: &Value) -> Option<CallId> {
+pub(crate) fn read_named_call(catalogue: &Catalogue, site: u32, object: &Value) -> Option<CallId>
+    ensures { result ≡ named_call_of (plain_workload catalogue.now) site (view object.now) }
+{
     let client = catalogue.client_of(text(object, "client")?)?;
     catalogue.call_at(site, client, number(object, "call")?)
 }
 
 /// What fails first of a treaty: a number, a sum and a bound.
-pub(crate) fn read_finding(value: &Value) -> Option<Broken> {
+pub(crate) fn read_finding(value: &Value) -> Option<Broken>
+    ensures { result ≡ finding_of (view value.now) }
+{
     match items(value)? {
-        [clause, sum, bound] => match u32::try_from(clause.as_u64()?) {
-            Ok(clause) => Some(Broken {
-                clause,
-                sum: wide(sum)?,
-                bound: wide(bound)?,
-            }),
-            Err(_) => None,
-        },
+        [clause, sum, bound] => Some(Broken {
+            clause: read_clause(clause)?,
+            sum: integer(sum)?,
+            bound: integer(bound)?,
+        }),
         _ => None,
+    }
+}
+
+/// The number of what fails.
+fn read_clause(value: &Value) -> Option<u32>
+    ensures { result ≡ option_and_then (below (2 ^ 32)) (whole (view value.now)) }
+{
+    match u32::try_from(value.as_u64()?) {
+        Ok(clause) => Some(clause),
+        Err(_) => None,
+    }
+}
+
+/// A value for each object of the workload.
+fn read_values(
+    alloc: Global,
+    catalogue: &Catalogue,
+    items: &[Value],
+) -> Result<Option<Database>, Memory>
+    ensures { IfOk result (λ o. option_map (λ l. l.items) o ≡ values_of (plain_workload catalogue.now) (map view items.now)) }
+{
+    if items.len() == catalogue.objects() {
+        values(alloc, items)
+    } else {
+        Ok(None)
     }
 }
 
@@ -52,20 +91,19 @@ pub(crate) fn read_database(
     catalogue: &Catalogue,
     object: &Value,
     key: &str,
-) -> Result<Option<Database>, Memory> {
+) -> Result<Option<Database>, Memory>
+    ensures { IfOk result (λ o. option_map (λ l. l.items) o ≡ database_at (plain_workload catalogue.now) key.now (view object.now)) }
+{
     match list(object, key) {
-        Some(items) => {
-            if items.len() != catalogue.objects() {
-                return Ok(None);
-            }
-            values(alloc, items)
-        }
+        Some(items) => read_values(alloc, catalogue, items),
         None => Ok(None),
     }
 }
 
 /// A call of a client at a site: the client's name, and the place in its list.
-fn read_call(catalogue: &Catalogue, site: u32, value: &Value) -> Option<CallId> {
+fn read_call(catalogue: &Catalogue, site: u32, value: &Value) -> Option<CallId>
+    ensures { result ≡ call_of (plain_workload catalogue.now) site (view value.now) }
+{
     match items(value)? {
         [client, place] => {
             let client = catalogue.client_of(client.as_str()?)?;
@@ -81,7 +119,9 @@ fn read_calls(
     catalogue: &Catalogue,
     site: u32,
     items: &[Value],
-) -> Result<Option<Vec<CallId>>, Memory> {
+) -> Result<Option<Vec<CallId>>, Memory>
+    ensures { IfOk result (λ o. option_map (λ l. l.items) o ≡ calls_of (plain_workload catalogue.now) site (map view items.now)) }
+{
     if items.len() > MOST_WAITING {
         return Ok(None);
     }
@@ -101,7 +141,9 @@ fn read_maybe_calls(
     catalogue: &Catalogue,
     site: u32,
     object: &Value,
-) -> Result<Option<Vec<CallId>>, Memory> {
+) -> Result<Option<Vec<CallId>>, Memory>
+    ensures { IfOk result (λ o. option_map (λ l. l.items) o ≡ calls_in (plain_workload catalogue.now) site (get (codes "calls") (view object.now))) }
+{
     let Some(calls) = object.get("calls") else {
         return Ok(Some(Vec::new(alloc)));
     };
@@ -117,7 +159,9 @@ pub(crate) fn read_said(
     catalogue: &Catalogue,
     site: u32,
     object: &Value,
-) -> Result<Option<Said>, Memory> {
+) -> Result<Option<Said>, Memory>
+    ensures { IfOk result (λ o. option_map plain_said o ≡ said_of (plain_workload catalogue.now) site (view object.now)) }
+{
     let Some(deltas) = read_database(alloc, catalogue, object, "deltas")? else {
         return Ok(None);
     };
@@ -128,12 +172,17 @@ pub(crate) fn read_said(
 }
 
 /// A packet `state`.
-pub(crate) fn read_state(
+pub(crate) fn read_stopped(
     alloc: Global,
     catalogue: &Catalogue,
     body: &Value,
-) -> Result<Option<Packet>, Memory> {
-    let (Some(round), Some(site)) = (number(body, "round"), small(body, "site")) else {
+) -> Result<Option<Packet>, Memory>
+    ensures { IfOk result (λ o. option_map plain_packet o ≡ stopped_of (plain_workload catalogue.now) (view body.now)) }
+{
+    let Some(round) = number(body, "round") else {
+        return Ok(None);
+    };
+    let Some(site) = small(body, "site") else {
         return Ok(None);
     };
     if site >= catalogue.sites() {
@@ -145,26 +194,43 @@ pub(crate) fn read_state(
     }
 }
 
+/// What all sites have said.
+fn read_all_said(
+    alloc: Global,
+    catalogue: &Catalogue,
+    items: &[Value],
+) -> Result<Option<Vec<Said>>, Memory>
+    ensures { IfOk result (λ o. option_map (λ l. map plain_said l.items) o ≡ all_said (plain_workload catalogue.now) (map view items.now)) }
+{
+    if items.len() != catalogue.sites() as usize {
+        return Ok(None);
+    }
+    let mut states = Vec::new(alloc);
+    for (site, item) in items.iter().enumerate() {
+        match read_said(alloc, catalogue, site as u32, item)? {
+            Some(said) => states.push(said)?,
+            None => return Ok(None),
+        }
+    }
+    Ok(Some(states))
+}
+
 /// How a round was closed: the breach, and what all sites have said.
 pub(crate) fn read_past(
     alloc: Global,
     catalogue: &Catalogue,
     body: &Value,
-) -> Result<Option<Past>, Memory> {
-    let (Some(breach), Some(items)) = (read_breach(catalogue, body), list(body, "states")) else {
+) -> Result<Option<Past>, Memory>
+    ensures { IfOk result (λ o. option_map plain_past o ≡ past_of (plain_workload catalogue.now) (view body.now)) }
+{
+    let Some(breach) = read_breach(catalogue, body) else {
         return Ok(None);
     };
-    if items.len() != catalogue.sites() as usize {
+    let Some(items) = list(body, "states") else {
         return Ok(None);
+    };
+    match read_all_said(alloc, catalogue, items)? {
+        Some(states) => Ok(Some(Past { breach, states })),
+        None => Ok(None),
     }
-    let mut states = Vec::new(alloc);
-    let mut site = 0;
-    for item in items {
-        match read_said(alloc, catalogue, site, item)? {
-            Some(said) => states.push(said)?,
-            None => return Ok(None),
-        }
-        site = u32::saturating_add(site, 1);
-    }
-    Ok(Some(Past { breach, states }))
 }

@@ -1,11 +1,22 @@
 //! Lines, read.
 
+ghost use Rattle.std.specs.Prelude.{◌≡◌, option_map, codes, IfOk};
+ghost use Rattle.std.specs.Option.{option_and_then};
+ghost use Rattle.serde_json.specs.Find.{get};
+ghost use Rattle.serde_json.specs.View.{view};
+ghost use Rattle.homeo_syntax.specs.SourceView.{plain_workload};
+ghost use Rattle.homeo_nodes.specs.Nodes.{Want, Stop};
+ghost use Rattle.homeo_lines.specs.Lines as l;
+ghost use Rattle.homeo_lines.specs.LineView.{plain_message, plain_line, plain_state};
+ghost use Rattle.homeo_lines.specs.Members.{text_at};
+ghost use Rattle.homeo_lines.specs.Read.{or_malformed, asked_of, breach_of, stopped_of, past_of, init_of, maybe_state, message_of, line_of, no_line, IsReadAs, IsNoJson};
+
 use crate::catalogue::Catalogue;
 use crate::line::{Head, Init, Line, Message};
-use crate::members::{list, number, text, texts, values};
-use crate::packets::{read_breach, read_past, read_state};
-use crate::state_reading::read_desk;
-use crate::wrong::{FORMAT, UNLISTED, malformed};
+use crate::members::{list, number, text, texts, values_at};
+use crate::packets::{read_breach, read_past, read_stopped};
+use crate::state_reading::{read_desk, read_format};
+use crate::wrong::{UNLISTED, malformed};
 use homeo_desk::DeskState;
 use homeo_live::Packet;
 use homeo_syntax::{Memory, Text};
@@ -17,7 +28,10 @@ use std::alloc::Global;
 /// # Errors
 ///
 /// `Memory` when out of memory.
-pub fn read(alloc: Global, catalogue: &Catalogue, bytes: &[u8]) -> Result<Line, Memory> {
+pub fn read(alloc: Global, catalogue: &Catalogue, bytes: &[u8]) -> Result<Line, Memory>
+    ensures json { (x : l.Line) → IsReadAs (plain_workload catalogue.now) bytes.now x → IfOk result (λ line. plain_line line ≡ x) }
+    ensures no_json { IsNoJson bytes.now → IfOk result (λ line. plain_line line ≡ no_line) }
+{
     match Value::from_slice(alloc, bytes) {
         Ok(value) => read_line(alloc, catalogue, &value),
         Err(error) => {
@@ -37,11 +51,15 @@ pub fn read(alloc: Global, catalogue: &Catalogue, bytes: &[u8]) -> Result<Line, 
 }
 
 /// Nothing that can be done, since the line isn't of the format.
-fn wrong(text: &'static str) -> Message {
+fn wrong(text: &'static str) -> Message
+    ensures { plain_message result ≡ l.Wrong 12 }
+{
     Message::Wrong(malformed(text))
 }
 
-fn read_line(alloc: Global, catalogue: &Catalogue, value: &Value) -> Result<Line, Memory> {
+fn read_line(alloc: Global, catalogue: &Catalogue, value: &Value) -> Result<Line, Memory>
+    ensures { IfOk result (λ x. plain_line x ≡ line_of (plain_workload catalogue.now) (view value.now)) }
+{
     let from = read_from(alloc, value)?;
     match value.get("body") {
         Some(body) => Ok(Line {
@@ -59,26 +77,24 @@ fn read_line(alloc: Global, catalogue: &Catalogue, value: &Value) -> Result<Line
 }
 
 /// From whom a line comes, where it says so.
-fn read_from(alloc: Global, value: &Value) -> Result<Option<Text>, Memory> {
+fn read_from(alloc: Global, value: &Value) -> Result<Option<Text>, Memory>
+    ensures { IfOk result (λ from. from ≡ text_at (codes "src") (view value.now)) }
+{
     match text(value, "src") {
         Some(from) => Ok(Some(Text::of(alloc, from)?)),
         None => Ok(None),
     }
 }
 
-fn read_message(alloc: Global, catalogue: &Catalogue, body: &Value) -> Result<Message, Memory> {
+fn read_message(alloc: Global, catalogue: &Catalogue, body: &Value) -> Result<Message, Memory>
+    ensures { IfOk result (λ m. plain_message m ≡ message_of (plain_workload catalogue.now) (view body.now)) }
+{
     match text(body, "type") {
         Some("call") => read_call(alloc, catalogue, body),
         Some("want") => Ok(read_want(catalogue, body)),
         Some("stop") => Ok(read_stop(catalogue, body)),
-        Some("state") => match read_state(alloc, catalogue, body)? {
-            Some(packet) => Ok(Message::Packet(packet)),
-            None => Ok(wrong("the state is none of a site of the text")),
-        },
-        Some("left") => match read_past(alloc, catalogue, body)? {
-            Some(past) => Ok(Message::Left(past)),
-            None => Ok(wrong("a round of the text isn't left so")),
-        },
+        Some("state") => read_state(alloc, catalogue, body),
+        Some("left") => read_left(alloc, catalogue, body),
         Some("tick") => Ok(Message::Tick),
         Some("snapshot") => Ok(Message::Snapshot),
         Some("status") => Ok(Message::Status),
@@ -88,29 +104,55 @@ fn read_message(alloc: Global, catalogue: &Catalogue, body: &Value) -> Result<Me
     }
 }
 
-fn read_want(catalogue: &Catalogue, body: &Value) -> Message {
+#[tactic(auto, unfolding(homeo_live::specs::Key::definitions))]
+fn read_want(catalogue: &Catalogue, body: &Value) -> Message
+    ensures { plain_message result ≡ or_malformed (λ b. l.Came (Want b)) (breach_of (plain_workload catalogue.now) (view body.now)) }
+{
     match read_breach(catalogue, body) {
         Some(breach) => Message::Packet(Packet::Want(breach)),
         None => wrong("the want is of no call of the text"),
     }
 }
 
-fn read_stop(catalogue: &Catalogue, body: &Value) -> Message {
+#[tactic(auto, unfolding(homeo_live::specs::Key::definitions))]
+fn read_stop(catalogue: &Catalogue, body: &Value) -> Message
+    ensures { plain_message result ≡ or_malformed (λ b. l.Came (Stop b)) (breach_of (plain_workload catalogue.now) (view body.now)) }
+{
     match read_breach(catalogue, body) {
         Some(breach) => Message::Packet(Packet::Stop(breach)),
         None => wrong("the stop is of no call of the text"),
     }
 }
 
-fn read_call(alloc: Global, catalogue: &Catalogue, body: &Value) -> Result<Message, Memory> {
-    let (Some(client), Some(transaction)) = (text(body, "client"), text(body, "transaction")) else {
-        return Ok(wrong("a call has the texts client and transaction"));
+fn read_state(alloc: Global, catalogue: &Catalogue, body: &Value) -> Result<Message, Memory>
+    ensures { IfOk result (λ m. plain_message m ≡ or_malformed l.Came (stopped_of (plain_workload catalogue.now) (view body.now))) }
+{
+    match read_stopped(alloc, catalogue, body)? {
+        Some(packet) => Ok(Message::Packet(packet)),
+        None => Ok(wrong("the state is none of a site of the text")),
+    }
+}
+
+fn read_left(alloc: Global, catalogue: &Catalogue, body: &Value) -> Result<Message, Memory>
+    ensures { IfOk result (λ m. plain_message m ≡ or_malformed l.HasLeft (past_of (plain_workload catalogue.now) (view body.now))) }
+{
+    match read_past(alloc, catalogue, body)? {
+        Some(past) => Ok(Message::Left(past)),
+        None => Ok(wrong("a round of the text isn't left so")),
+    }
+}
+
+fn read_call(alloc: Global, catalogue: &Catalogue, body: &Value) -> Result<Message, Memory>
+    ensures { IfOk result (λ m. plain_message m ≡ or_malformed (λ x. x) (asked_of (plain_workload catalogue.now) (view body.now))) }
+{
+    let Some(client) = text(body, "client") else {
+        return Ok(wrong("a call has the text client"));
     };
-    let Some(items) = list(body, "args") else {
-        return Ok(wrong("a call has the list args"));
+    let Some(transaction) = text(body, "transaction") else {
+        return Ok(wrong("a call has the text transaction"));
     };
-    let Some(args) = values(alloc, items)? else {
-        return Ok(wrong("an argument is no number of the language"));
+    let Some(args) = values_at(alloc, body, "args")? else {
+        return Ok(wrong("a call has the list args of numbers of the language"));
     };
     match catalogue.listed_of(client, transaction, args.as_slice()) {
         Some(call) => Ok(Message::Call(call)),
@@ -118,12 +160,17 @@ fn read_call(alloc: Global, catalogue: &Catalogue, body: &Value) -> Result<Messa
     }
 }
 
-fn read_init(alloc: Global, catalogue: &Catalogue, body: &Value) -> Result<Message, Memory> {
-    if number(body, "format") != Some(FORMAT) {
+fn read_init(alloc: Global, catalogue: &Catalogue, body: &Value) -> Result<Message, Memory>
+    ensures { IfOk result (λ m. plain_message m ≡ or_malformed (λ x. x) (init_of (plain_workload catalogue.now) (view body.now))) }
+{
+    if read_format(body).is_none() {
         return Ok(wrong("an init has the format 1"));
     }
-    let (Some(node), Some(items)) = (text(body, "node_id"), list(body, "node_ids")) else {
-        return Ok(wrong("an init has the text node_id and the list node_ids"));
+    let Some(node) = text(body, "node_id") else {
+        return Ok(wrong("an init has the text node_id"));
+    };
+    let Some(items) = list(body, "node_ids") else {
+        return Ok(wrong("an init has the list node_ids"));
     };
     let Some(nodes) = texts(alloc, items)? else {
         return Ok(wrong("the node_ids are distinct texts"));
@@ -140,7 +187,9 @@ fn read_maybe_desk(
     alloc: Global,
     catalogue: &Catalogue,
     body: &Value,
-) -> Result<Option<Option<DeskState>>, Memory> {
+) -> Result<Option<Option<DeskState>>, Memory>
+    ensures { IfOk result (λ o. option_map (option_map plain_state) o ≡ maybe_state (plain_workload catalogue.now) (get (codes "state") (view body.now))) }
+{
     let Some(state) = body.get("state") else {
         return Ok(Some(None));
     };

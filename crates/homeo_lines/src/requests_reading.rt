@@ -1,10 +1,17 @@
 //! Requests that wait and answers that were given, read from JSON values.
 
+ghost use Rattle.std.specs.Prelude.{◌≡◌, map, option_map, codes, IfOk};
+ghost use Rattle.std.specs.Option.{option_and_then};
+ghost use Rattle.serde_json.specs.View.{view};
+ghost use Rattle.homeo_syntax.specs.SourceView.{plain_workload};
+ghost use Rattle.homeo_lines.specs.LineView.{plain_answer};
+ghost use Rattle.homeo_lines.specs.Members.{list_at, each};
+ghost use Rattle.homeo_lines.specs.Read.{request_of, path_of, answer_of};
+
 use crate::catalogue::Catalogue;
-use crate::members::{list, number, text, values};
+use crate::members::{list, number, text, values_at};
 use crate::packets::{read_finding, read_named_call};
 use homeo_desk::{Answer, Path, Request};
-use homeo_meaning::CallId;
 use homeo_syntax::{Memory, Text};
 use serde_json::Value;
 use std::alloc::Global;
@@ -15,7 +22,9 @@ pub(crate) fn read_queue(
     catalogue: &Catalogue,
     site: u32,
     value: &Value,
-) -> Result<Option<Vec<Request>>, Memory> {
+) -> Result<Option<Vec<Request>>, Memory>
+    ensures { IfOk result (λ o. option_map (λ l. l.items) o ≡ option_and_then (each (request_of (plain_workload catalogue.now) site)) (list_at (codes "queue") (view value.now))) }
+{
     let Some(items) = list(value, "queue") else {
         return Ok(None);
     };
@@ -34,30 +43,23 @@ fn read_request(
     catalogue: &Catalogue,
     site: u32,
     value: &Value,
-) -> Result<Option<Request>, Memory> {
-    let (Some(caller), Some(asked)) = (text(value, "src"), read_asked(catalogue, site, value))
-    else {
+) -> Result<Option<Request>, Memory>
+    ensures { IfOk result (λ o. o ≡ request_of (plain_workload catalogue.now) site (view value.now)) }
+{
+    let Some(caller) = text(value, "src") else {
+        return Ok(None);
+    };
+    let Some(number) = number(value, "msg_id") else {
+        return Ok(None);
+    };
+    let Some(call) = read_named_call(catalogue, site, value) else {
         return Ok(None);
     };
     Ok(Some(Request {
         caller: Text::of(alloc, caller)?,
-        number: asked.number,
-        call: asked.call,
+        number,
+        call,
     }))
-}
-
-/// The number of a request, and its call.
-#[derive(Clone, Copy)]
-struct Asked {
-    number: u64,
-    call: CallId,
-}
-
-fn read_asked(catalogue: &Catalogue, site: u32, value: &Value) -> Option<Asked> {
-    Some(Asked {
-        number: number(value, "msg_id")?,
-        call: read_named_call(catalogue, site, value)?,
-    })
 }
 
 /// The answers of the member `answered`, each to a call of a client at the site.
@@ -66,7 +68,9 @@ pub(crate) fn read_answered(
     catalogue: &Catalogue,
     site: u32,
     value: &Value,
-) -> Result<Option<Vec<Answer>>, Memory> {
+) -> Result<Option<Vec<Answer>>, Memory>
+    ensures { IfOk result (λ o. option_map (λ l. map plain_answer l.items) o ≡ option_and_then (each (answer_of (plain_workload catalogue.now) site)) (list_at (codes "answered") (view value.now))) }
+{
     let Some(items) = list(value, "answered") else {
         return Ok(None);
     };
@@ -85,20 +89,25 @@ fn read_answer(
     catalogue: &Catalogue,
     site: u32,
     value: &Value,
-) -> Result<Option<Answer>, Memory> {
-    let Some(asked) = read_asked(catalogue, site, value) else {
+) -> Result<Option<Answer>, Memory>
+    ensures { IfOk result (λ o. option_map plain_answer o ≡ answer_of (plain_workload catalogue.now) site (view value.now)) }
+{
+    let Some(asked) = number(value, "msg_id") else {
         return Ok(None);
     };
-    let (Some(round), Some(path)) = (number(value, "round"), read_path(value)) else {
+    let Some(call) = read_named_call(catalogue, site, value) else {
         return Ok(None);
     };
-    let Some(items) = list(value, "prints") else {
+    let Some(round) = number(value, "round") else {
         return Ok(None);
     };
-    match values(alloc, items)? {
+    let Some(path) = read_path(value) else {
+        return Ok(None);
+    };
+    match values_at(alloc, value, "prints")? {
         Some(prints) => Ok(Some(Answer {
-            number: asked.number,
-            call: asked.call,
+            number: asked,
+            call,
             prints,
             round,
             path,
@@ -107,7 +116,9 @@ fn read_answer(
     }
 }
 
-fn read_path(value: &Value) -> Option<Path> {
+fn read_path(value: &Value) -> Option<Path>
+    ensures { result ≡ path_of (view value.now) }
+{
     match text(value, "path")? {
         "local" => Some(Path::Local {
             place: number(value, "place")?,

@@ -1,18 +1,79 @@
-//! The state of a desk, written.
+//! Requests, answers and the state of a desk, written as JSON.
+
+ghost use Rattle.std.specs.Prelude.{◌≡◌, OnOk};
+ghost use Rattle.homeo_syntax.specs.SourceView.{plain_workload};
+ghost use Rattle.homeo_live.specs.LiveView.{plain_node};
+ghost use Rattle.homeo_lines.specs.LineView.{plain_answer, plain_state};
+ghost use Rattle.homeo_lines.specs.Written.{mode_name, breach_of, path_fields, answer_fields, given_data, request_data, site_fields, closing_fields, state_data};
+ghost use Rattle.homeo_lines.specs.inner.Sends.{SendsFields};
 
 use crate::catalogue::Catalogue;
-use crate::written::{
-    write_answer, write_breach, write_named_call, write_past, write_said, write_values,
-};
+use crate::packets_writing::write_named_call;
+use crate::written::{Written, write_member};
 use crate::wrong::FORMAT;
-use homeo_carry::Said;
-use homeo_desk::{Answer, DeskState, Request};
-use homeo_live::{NodeState, Past};
+use homeo_desk::{Answer, DeskState, Path, Request};
+use homeo_live::NodeState;
 use homeo_nodes::{Breach, Mode};
 use serde::Serializer;
 
+/// Writes the members that say where an answer's call stands.
+fn write_path<S: Serializer>(catalogue: &Catalogue, path: Path, out: &mut S) -> Result<(), S::Error>
+    ensures { OnOk result (SendsFields (path_fields path) (S.written out.old) (S.written out.new)) }
+{
+    match path {
+        Path::Local { place } => {
+            write_member(catalogue, "path", &"local", out)?;
+            write_member(catalogue, "place", &place, out)
+        }
+        Path::Closing(broken) => {
+            write_member(catalogue, "path", &"closing", out)?;
+            write_member(catalogue, "finding", &broken, out)
+        }
+    }
+}
+
+/// Writes the members of an answer that say what the call printed and where it stands.
+pub(crate) fn write_answer<S: Serializer>(
+    catalogue: &Catalogue,
+    answer: &Answer,
+    out: &mut S,
+) -> Result<(), S::Error>
+    ensures { OnOk result (SendsFields (answer_fields (plain_answer answer.now)) (S.written out.old) (S.written out.new)) }
+{
+    write_member(catalogue, "prints", &answer.prints, out)?;
+    write_member(catalogue, "round", &answer.round, out)?;
+    write_path(catalogue, answer.path, out)
+}
+
+/// The number of its request, its call, and what is said of that.
+impl Written for Answer {
+    ghost json = { λ w a. given_data w (plain_answer a) };
+
+    fn write<S: Serializer>(&self, catalogue: &Catalogue, out: &mut S) -> Result<(), S::Error> {
+        out.begin_map(Some(7))?;
+        write_member(catalogue, "msg_id", &self.number, out)?;
+        write_named_call(catalogue, self.call, out)?;
+        write_answer(catalogue, self, out)?;
+        out.end_map()
+    }
+}
+
+impl Written for Request {
+    ghost json = { request_data };
+
+    fn write<S: Serializer>(&self, catalogue: &Catalogue, out: &mut S) -> Result<(), S::Error> {
+        out.begin_map(Some(4))?;
+        write_member(catalogue, "src", &self.caller, out)?;
+        write_member(catalogue, "msg_id", &self.number, out)?;
+        write_named_call(catalogue, self.call, out)?;
+        out.end_map()
+    }
+}
+
 /// The name of a mode.
-pub(crate) fn mode_name(mode: Mode) -> &'static str {
+pub(crate) fn mode_name(mode: Mode) -> &'static str
+    ensures { result.now ≡ mode_name mode }
+{
     match mode {
         Mode::Running => "running",
         Mode::Waiting(_) => "waiting",
@@ -21,158 +82,56 @@ pub(crate) fn mode_name(mode: Mode) -> &'static str {
 }
 
 /// The call by which a node doesn't run.
-fn breach_of(mode: Mode) -> Option<Breach> {
+fn breach_of(mode: Mode) -> Option<Breach>
+    ensures { result ≡ breach_of mode }
+{
     match mode {
         Mode::Running => None,
-        Mode::Waiting(b) => Some(b),
-        Mode::Stopped(b) => Some(b),
+        Mode::Waiting(b) | Mode::Stopped(b) => Some(b),
     }
 }
 
-/// A breach, or null where there is none.
-fn write_maybe_breach<S: Serializer>(
-    catalogue: &Catalogue,
-    breach: Option<Breach>,
-    out: &mut S,
-) -> Result<(), S::Error> {
-    match breach {
-        None => out.unit(),
-        Some(b) => {
-            out.begin_map(Some(5))?;
-            write_breach(catalogue, b, out)?;
-            out.end_map()
-        }
+/// The state of a desk.
+impl Written for DeskState {
+    ghost json = { λ w s. state_data w (plain_state s) };
+
+    fn write<S: Serializer>(&self, catalogue: &Catalogue, out: &mut S) -> Result<(), S::Error> {
+        out.begin_map(Some(13))?;
+        write_member(catalogue, "format", &FORMAT, out)?;
+        write_site(catalogue, &self.node, out)?;
+        write_member(catalogue, "made", &self.made, out)?;
+        write_closing(catalogue, &self.node, out)?;
+        write_member(catalogue, "queue", &self.queue, out)?;
+        write_member(catalogue, "answered", &self.answered, out)?;
+        out.end_map()
     }
 }
 
-fn write_states<S: Serializer>(
+/// Writes the members of a node's site.
+fn write_site<S: Serializer>(
     catalogue: &Catalogue,
-    states: &[Option<Said>],
+    node: &NodeState,
     out: &mut S,
-) -> Result<(), S::Error> {
-    out.begin_seq(Some(states.len()))?;
-    for state in states {
-        match state {
-            None => out.unit()?,
-            Some(said) => write_said(catalogue, said, out)?,
-        }
-    }
-    out.end_seq()
+) -> Result<(), S::Error>
+    ensures { OnOk result (SendsFields (site_fields (plain_node node.now)) (S.written out.old) (S.written out.new)) }
+{
+    write_member(catalogue, "site", &node.site, out)?;
+    write_member(catalogue, "round", &node.round, out)?;
+    write_member(catalogue, "base", &node.base, out)?;
+    write_member(catalogue, "deltas", &node.deltas, out)
 }
 
-/// How the node has left a round, or null where it has left none.
-fn write_left<S: Serializer>(
-    catalogue: &Catalogue,
-    past: &Option<Past>,
-    out: &mut S,
-) -> Result<(), S::Error> {
-    match past {
-        None => out.unit(),
-        Some(past) => {
-            out.begin_map(None)?;
-            write_past(catalogue, past, out)?;
-            out.end_map()
-        }
-    }
-}
-
-fn write_request<S: Serializer>(
-    catalogue: &Catalogue,
-    request: &Request,
-    out: &mut S,
-) -> Result<(), S::Error> {
-    out.begin_map(None)?;
-    out.key("src")?;
-    out.str(request.caller.as_str())?;
-    out.key("msg_id")?;
-    out.u64(request.number)?;
-    write_named_call(catalogue, request.call, out)?;
-    out.end_map()
-}
-
-fn write_queue<S: Serializer>(
-    catalogue: &Catalogue,
-    queue: &[Request],
-    out: &mut S,
-) -> Result<(), S::Error> {
-    out.begin_seq(Some(queue.len()))?;
-    for request in queue {
-        write_request(catalogue, request, out)?;
-    }
-    out.end_seq()
-}
-
-fn write_given<S: Serializer>(
-    catalogue: &Catalogue,
-    answer: &Answer,
-    out: &mut S,
-) -> Result<(), S::Error> {
-    out.begin_map(None)?;
-    out.key("msg_id")?;
-    out.u64(answer.number)?;
-    write_named_call(catalogue, answer.call, out)?;
-    write_answer(answer, out)?;
-    out.end_map()
-}
-
-fn write_answered<S: Serializer>(
-    catalogue: &Catalogue,
-    answered: &[Answer],
-    out: &mut S,
-) -> Result<(), S::Error> {
-    out.begin_seq(Some(answered.len()))?;
-    for answer in answered {
-        write_given(catalogue, answer, out)?;
-    }
-    out.end_seq()
-}
-
-/// The members of a node's site.
-fn write_site<S: Serializer>(node: &NodeState, out: &mut S) -> Result<(), S::Error> {
-    out.key("site")?;
-    out.u64(u64::from(node.site))?;
-    out.key("round")?;
-    out.u64(node.round)?;
-    out.key("base")?;
-    write_values(node.base.as_slice(), out)?;
-    out.key("deltas")?;
-    write_values(node.deltas.as_slice(), out)
-}
-
-/// The members by which a node closes its round, and has closed one.
+/// Writes the members by which a node closes its round, and has closed one.
 fn write_closing<S: Serializer>(
     catalogue: &Catalogue,
     node: &NodeState,
     out: &mut S,
-) -> Result<(), S::Error> {
-    out.key("mode")?;
-    out.str(mode_name(node.mode))?;
-    out.key("breach")?;
-    write_maybe_breach(catalogue, breach_of(node.mode), out)?;
-    out.key("decided")?;
-    write_maybe_breach(catalogue, node.decided, out)?;
-    out.key("states")?;
-    write_states(catalogue, node.states.as_slice(), out)?;
-    out.key("left")?;
-    write_left(catalogue, &node.past, out)
-}
-
-/// The state of a desk.
-pub(crate) fn write_state<S: Serializer>(
-    catalogue: &Catalogue,
-    state: &DeskState,
-    out: &mut S,
-) -> Result<(), S::Error> {
-    out.begin_map(None)?;
-    out.key("format")?;
-    out.u64(FORMAT)?;
-    write_site(&state.node, out)?;
-    out.key("made")?;
-    out.u64(state.made)?;
-    write_closing(catalogue, &state.node, out)?;
-    out.key("queue")?;
-    write_queue(catalogue, state.queue.as_slice(), out)?;
-    out.key("answered")?;
-    write_answered(catalogue, state.answered.as_slice(), out)?;
-    out.end_map()
+) -> Result<(), S::Error>
+    ensures { OnOk result (SendsFields (closing_fields (plain_workload catalogue.now) (plain_node node.now)) (S.written out.old) (S.written out.new)) }
+{
+    write_member(catalogue, "mode", &mode_name(node.mode), out)?;
+    write_member(catalogue, "breach", &breach_of(node.mode), out)?;
+    write_member(catalogue, "decided", &node.decided, out)?;
+    write_member(catalogue, "states", &node.states, out)?;
+    write_member(catalogue, "left", &node.past, out)
 }

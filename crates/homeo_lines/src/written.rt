@@ -1,165 +1,166 @@
-//! The parts of lines, written.
+//! Values, written as JSON.
+
+ghost use Rattle.std.specs.Prelude.{◌+◌, ◌≡◌, ◌<◌, ◌≤◌, map, ℤ, pos, length, OnOk};
+ghost use Rattle.serde_json.specs.Data.{Data, string};
+ghost use Rattle.serde_json.specs.Events.{SendsValue};
+ghost use Rattle.homeo_syntax.specs.Source.{Workload};
+ghost use Rattle.homeo_syntax.specs.SourceView.{plain_workload};
+ghost use Rattle.homeo_syntax.specs.Listed.{Listed};
+ghost use Rattle.homeo_certificate.specs.Json.{whole_data, list_data, wholes_data};
+ghost use Rattle.homeo_lines.specs.Written.{count_data, maybe_data, type_fields};
+ghost use Rattle.homeo_lines.specs.inner.Sends.{SendsField, SendsFields, Begins};
 
 use crate::catalogue::Catalogue;
-use homeo_carry::Said;
-use homeo_desk::{Answer, Path};
-use homeo_live::{Packet, Past};
-use homeo_meaning::CallId;
-use homeo_nodes::Breach;
-use homeo_plan::Broken;
+use homeo_syntax::{List, Text};
 use serde::Serializer;
 
-pub(crate) fn write_values<S: Serializer>(values: &[i64], out: &mut S) -> Result<(), S::Error> {
-    out.begin_seq(Some(values.len()))?;
-    for value in values {
-        out.i64(*value)?;
-    }
-    out.end_seq()
+/// What has a JSON value, where the names of a workload are known.
+pub(crate) trait Written {
+    /// What the value is.
+    ghost json: { Workload → Self → Data };
+
+    /// Writes the value.
+    fn write<S: Serializer>(&self, catalogue: &Catalogue, out: &mut S) -> Result<(), S::Error>
+        ensures { OnOk result (SendsValue (json (plain_workload catalogue.now) self.now) (S.written out.old) (S.written out.new)) };
 }
 
-fn write_finding<S: Serializer>(broken: Broken, out: &mut S) -> Result<(), S::Error> {
-    out.key("finding")?;
-    out.begin_seq(Some(3))?;
-    out.u64(u64::from(broken.clause))?;
-    out.i128(broken.sum)?;
-    out.i128(broken.bound)?;
-    out.end_seq()
-}
-
-/// The members that name a call: its client, and its place in the client's list.
-pub(crate) fn write_named_call<S: Serializer>(
+/// Writes a member of an object.
+pub(crate) fn write_member<T: Written, S: Serializer>(
     catalogue: &Catalogue,
-    call: CallId,
+    key: &str,
+    value: &T,
     out: &mut S,
-) -> Result<(), S::Error> {
-    out.key("client")?;
-    out.str(catalogue.client_name(call.client))?;
-    out.key("call")?;
-    out.u64(call.seq)
+) -> Result<(), S::Error>
+    ensures { OnOk result (SendsField (key.now, T.Written.json (plain_workload catalogue.now) value.now) (S.written out.old) (S.written out.new)) }
+{
+    out.key(key)?;
+    value.write(catalogue, out)
 }
 
-/// The members of a breach.
-pub(crate) fn write_breach<S: Serializer>(
+/// Begins an object that has a type, and the number of what it answers, where there is one, and so many more members.
+pub(crate) fn begin_typed<S: Serializer>(
     catalogue: &Catalogue,
-    b: Breach,
+    name: &str,
+    number: Option<u64>,
+    more: usize,
     out: &mut S,
-) -> Result<(), S::Error> {
-    out.key("round")?;
-    out.u64(b.round)?;
-    out.key("site")?;
-    out.u64(u64::from(b.site))?;
-    write_named_call(catalogue, b.call, out)?;
-    write_finding(b.broken, out)
-}
-
-/// A call: the name of its client, and its place in the client's list.
-fn write_call<S: Serializer>(
-    catalogue: &Catalogue,
-    call: CallId,
-    out: &mut S,
-) -> Result<(), S::Error> {
-    out.begin_seq(Some(2))?;
-    out.str(catalogue.client_name(call.client))?;
-    out.u64(call.seq)?;
-    out.end_seq()
-}
-
-/// The member `calls`, which is left out where there are none.
-fn write_calls<S: Serializer>(
-    catalogue: &Catalogue,
-    calls: &[CallId],
-    out: &mut S,
-) -> Result<(), S::Error> {
-    if calls.is_empty() {
-        return Ok(());
-    }
-    out.key("calls")?;
-    out.begin_seq(Some(calls.len()))?;
-    for call in calls {
-        write_call(catalogue, *call, out)?;
-    }
-    out.end_seq()
-}
-
-/// The members of what a site has said.
-fn write_said_members<S: Serializer>(
-    catalogue: &Catalogue,
-    said: &Said,
-    out: &mut S,
-) -> Result<(), S::Error> {
-    out.key("deltas")?;
-    write_values(said.deltas.as_slice(), out)?;
-    write_calls(catalogue, said.calls.as_slice(), out)
-}
-
-/// What a site has said.
-pub(crate) fn write_said<S: Serializer>(
-    catalogue: &Catalogue,
-    said: &Said,
-    out: &mut S,
-) -> Result<(), S::Error> {
-    out.begin_map(None)?;
-    write_said_members(catalogue, said, out)?;
-    out.end_map()
-}
-
-/// The members of a past.
-pub(crate) fn write_past<S: Serializer>(
-    catalogue: &Catalogue,
-    past: &Past,
-    out: &mut S,
-) -> Result<(), S::Error> {
-    write_breach(catalogue, past.breach, out)?;
-    out.key("states")?;
-    out.begin_seq(Some(past.states.len()))?;
-    for said in past.states.as_slice() {
-        write_said(catalogue, said, out)?;
-    }
-    out.end_seq()
-}
-
-/// The type of a packet, and its members.
-pub(crate) fn write_packet<S: Serializer>(
-    catalogue: &Catalogue,
-    packet: &Packet,
-    out: &mut S,
-) -> Result<(), S::Error> {
-    match packet {
-        Packet::Want(b) => {
-            out.str("want")?;
-            write_breach(catalogue, *b, out)
+) -> Result<(), S::Error>
+    requires few { more ≤ 16 }
+    ensures { OnOk result (Begins (type_fields name.now number) more (S.written out.old) (S.written out.new)) }
+{
+    match number {
+        Some(number) => {
+            out.begin_map(Some(2 + more))?;
+            write_member(catalogue, "type", &name, out)?;
+            write_member(catalogue, "in_reply_to", &number, out)
         }
-        Packet::Stop(b) => {
-            out.str("stop")?;
-            write_breach(catalogue, *b, out)
-        }
-        Packet::State { round, site, said } => {
-            out.str("state")?;
-            out.key("round")?;
-            out.u64(*round)?;
-            out.key("site")?;
-            out.u64(u64::from(*site))?;
-            write_said_members(catalogue, said, out)
+        None => {
+            out.begin_map(Some(1 + more))?;
+            write_member(catalogue, "type", &name, out)
         }
     }
 }
 
-/// The members of an answer that say what the call printed and where it stands.
-pub(crate) fn write_answer<S: Serializer>(answer: &Answer, out: &mut S) -> Result<(), S::Error> {
-    out.key("prints")?;
-    write_values(answer.prints.as_slice(), out)?;
-    out.key("round")?;
-    out.u64(answer.round)?;
-    out.key("path")?;
-    match answer.path {
-        Path::Local { place } => {
-            out.str("local")?;
-            out.key("place")?;
-            out.u64(place)
-        }
-        Path::Closing(broken) => {
-            out.str("closing")?;
-            write_finding(broken, out)
+impl Written for &str {
+    ghost json = { λ _ s. string s.now };
+
+    fn write<S: Serializer>(&self, _catalogue: &Catalogue, out: &mut S) -> Result<(), S::Error> {
+        out.str(self)
+    }
+}
+
+impl Written for Text {
+    ghost json = { λ _ t. string t };
+
+    fn write<S: Serializer>(&self, _catalogue: &Catalogue, out: &mut S) -> Result<(), S::Error> {
+        out.str(self.as_str())
+    }
+}
+
+impl Written for u32 {
+    ghost json = { λ _ n. count_data n };
+
+    fn write<S: Serializer>(&self, _catalogue: &Catalogue, out: &mut S) -> Result<(), S::Error> {
+        out.u64(u64::from(*self))
+    }
+}
+
+impl Written for u64 {
+    ghost json = { λ _ n. count_data n };
+
+    fn write<S: Serializer>(&self, _catalogue: &Catalogue, out: &mut S) -> Result<(), S::Error> {
+        out.u64(*self)
+    }
+}
+
+impl Written for i64 {
+    ghost json = { λ _ n. whole_data n };
+
+    #[tactic(auto, using(crate::proofs::Sent::number_sends))]
+    fn write<S: Serializer>(&self, _catalogue: &Catalogue, out: &mut S) -> Result<(), S::Error> {
+        if *self < 0 {
+            out.i64(*self)
+        } else {
+            out.u64(*self as u64)
         }
     }
+}
+
+impl Written for i128 {
+    ghost json = { λ _ n. whole_data n };
+
+    #[tactic(auto, using(crate::proofs::Sent::number_sends))]
+    fn write<S: Serializer>(&self, _catalogue: &Catalogue, out: &mut S) -> Result<(), S::Error> {
+        if *self < 0 {
+            out.i128(*self)
+        } else {
+            out.u128(*self as u128)
+        }
+    }
+}
+
+/// A value, or null.
+impl<T: Written> Written for Option<T> {
+    ghost json = { λ w. maybe_data (T.Written.json w) };
+
+    fn write<S: Serializer>(&self, catalogue: &Catalogue, out: &mut S) -> Result<(), S::Error> {
+        match self {
+            Some(value) => value.write(catalogue, out),
+            None => out.unit(),
+        }
+    }
+}
+
+/// A list of values.
+impl<T: Written> Written for Vec<T> {
+    ghost json = { λ w v. list_data (map (T.Written.json w) v.items) };
+
+    fn write<S: Serializer>(&self, catalogue: &Catalogue, out: &mut S) -> Result<(), S::Error> {
+        write_each(catalogue, self.as_slice(), out)
+    }
+}
+
+/// A list of numbers.
+impl Written for List<i64> {
+    ghost json = { λ _ (l : Listed ℤ). wholes_data l.items };
+
+    fn write<S: Serializer>(&self, catalogue: &Catalogue, out: &mut S) -> Result<(), S::Error> {
+        write_each(catalogue, self.as_slice(), out)
+    }
+}
+
+/// Writes a list of values.
+#[tactic(auto, using(crate::proofs::Sent::list_sends))]
+fn write_each<T: Written, S: Serializer>(
+    catalogue: &Catalogue,
+    items: &[T],
+    out: &mut S,
+) -> Result<(), S::Error>
+    ensures { OnOk result (SendsValue (list_data (map (T.Written.json (plain_workload catalogue.now)) items.now)) (S.written out.old) (S.written out.new)) }
+{
+    out.begin_seq(Some(items.len()))?;
+    for item in items {
+        item.write(catalogue, out)?;
+    }
+    out.end_seq()
 }

@@ -1,5 +1,7 @@
 //! What is wrong with a line.
 
+ghost use Rattle.std.specs.Prelude.{◌≡◌};
+
 /// The version of the format of lines and snapshots.
 pub const FORMAT: u64 = 1;
 
@@ -11,7 +13,10 @@ pub struct Wrong {
 }
 
 /// A line that isn't of the format, and what is wrong with it.
-pub fn malformed(text: &'static str) -> Wrong {
+pub fn malformed(text: &'static str) -> Wrong
+    ensures code { result.code ≡ 12 }
+    ensures text { result.text.now ≡ text.now }
+{
     Wrong { code: 12, text }
 }
 

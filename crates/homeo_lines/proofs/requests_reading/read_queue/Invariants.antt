@@ -1,0 +1,9 @@
+-- Those so far are read.
+use Rattle.serde_json.specs.View.{view}
+use Rattle.homeo_syntax.specs.SourceView.{plain_workload}
+use Rattle.homeo_lines.specs.Read.{request_of}
+use Rattle.homeo_lines.proofs.Lists.{AreFirst}
+use Rattle.homeo_lines.proofs.requests_reading.read_queue.Given as goal
+
+abbrev pub invariant-loop-item : goal.invariant-loop-item
+invariant-loop-item l = AreFirst (λ k. request_of (plain_workload l.catalogue) l.site) view l.items l.item-index l.queue.items

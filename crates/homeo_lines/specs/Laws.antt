@@ -1,0 +1,85 @@
+-- What is written of packets is read back as them.
+use Rattle.std.specs.Prelude.{◌≡◌, ℕ, suc, ◌<◌, ◌≤◌, ◌^◌, List, [], ◌∷◌, length, ℤ, pos, neg_ℤ, int_le, true, Option, Some, None, slice_get, IsUtf8}
+use Rattle.homeo_syntax.specs.Source as s
+use Rattle.homeo_meaning.specs.declared.call.CallId.{CallId}
+use Rattle.homeo_plan.specs.declared.treaty.Broken.{Broken}
+use Rattle.homeo_plan.specs.Each.{Each}
+use Rattle.homeo_plan.specs.Planned.{sites_of}
+use Rattle.homeo_nodes.specs.declared.breach.Breach.{Breach}
+use Rattle.homeo_nodes.specs.Nodes.{Said, Past, Packet, Want, Stop, State}
+use Rattle.homeo_print.specs.Names.{object_names}
+use Rattle.homeo_certificate.specs.Shape.{IsWord}
+use Rattle.homeo_lines.specs.Lines as l
+use Rattle.homeo_lines.specs.Named.{client_name, client_called, call_at}
+use Rattle.homeo_lines.specs.Read.{IsReadAs}
+use Rattle.homeo_lines.specs.Written.{line_json}
+
+-- each client is the first of its name, which is a text
+pub record AreNamed (w : s.Workload) : Type 0 where
+  pub first : (n : ℕ) (client : s.Client) → slice_get w.clients n ≡ Some client → client_called w (client_name w n) ≡ Some n
+  pub text : (n : ℕ) → IsUtf8 (client_name w n)
+
+-- ---- which packets have no number that JSON readers lose
+-- a call of a client at the site
+pub record IsSmallCall (w : s.Workload) (site : ℕ) (call : CallId) : Type 0 where
+  pub listed : call_at w site call.client call.seq ≡ Some call
+  pub small : call.seq < 2 ^ 53
+
+pub record IsSmallFinding (b : Broken) : Type 0 where
+  pub clause : b.clause < 2 ^ 32
+  pub sum : IsWord b.sum
+  pub bound : IsWord b.bound
+
+pub record IsSmallBreach (w : s.Workload) (b : Breach) : Type 0 where
+  pub round : b.round < 2 ^ 53
+  pub site : b.site < 2 ^ 32
+  pub call : IsSmallCall w b.site b.call
+  pub broken : IsSmallFinding b.broken
+
+-- a number of the language's databases
+pub record IsValue (n : ℤ) : Type 0 where
+  pub low : int_le (neg_ℤ (pos 10000000000000)) n ≡ true
+  pub high : int_le n (pos 10000000000000) ≡ true
+
+-- a value of each object, and at most 64 calls
+pub record IsSmallSaid (w : s.Workload) (site : ℕ) (x : Said) : Type 0 where
+  pub deltas : length x.deltas ≡ length (object_names w)
+  pub values : Each IsValue x.deltas
+  pub few : length x.calls ≤ 64
+  pub calls : Each (IsSmallCall w site) x.calls
+
+pub record IsSmallState (w : s.Workload) (round site : ℕ) (x : Said) : Type 0 where
+  pub small_round : round < 2 ^ 53
+  pub small_site : site < 2 ^ 32
+  pub there : site < sites_of w
+  pub said : IsSmallSaid w site x
+
+abbrev pub IsSmall : s.Workload → Packet → Type 0
+IsSmall w (Want b) = IsSmallBreach w b
+IsSmall w (Stop b) = IsSmallBreach w b
+IsSmall w (State round site said) = IsSmallState w round site said
+
+abbrev pub AllSmall : s.Workload → ℕ → List Said → Type 0
+AllSmall w k [] = Unit {0}
+AllSmall w k (x ∷ xs) = IsSmallSaid w k x × AllSmall w (suc k) xs
+
+pub record IsSmallPast (w : s.Workload) (p : Past) : Type 0 where
+  pub breach : IsSmallBreach w p.breach
+  pub sites : length p.states ≡ sites_of w
+  pub states : AllSmall w 0 p.states
+
+-- ---- the laws
+abbrev pub IsText : Option (List ℕ) → Type 0
+IsText None = Unit {0}
+IsText (Some name) = IsUtf8 name
+
+-- a line means the packet that it was written of
+abbrev pub PacketsReadBack : Type 0
+PacketsReadBack =
+    (w : s.Workload) → AreNamed w → (from to : Option (List ℕ)) → IsText from → IsText to → (p : Packet) → IsSmall w p →
+    IsReadAs w (line_json w from to (l.Sent p)) (record { from = from; number = None; message = l.Came p })
+
+abbrev pub PastsReadBack : Type 0
+PastsReadBack =
+    (w : s.Workload) → AreNamed w → (from to : Option (List ℕ)) → IsText from → IsText to → (p : Past) → IsSmallPast w p →
+    IsReadAs w (line_json w from to (l.Left p)) (record { from = from; number = None; message = l.HasLeft p })
