@@ -52,7 +52,8 @@ class Server:
 
     def __init__(self, words, folder, **how):
         self.folder, self.out = folder, open(folder / "out", "ab")
-        self.process = subprocess.Popen(words, stdin=subprocess.DEVNULL, stdout=self.out, stderr=self.out, start_new_session=True, **how)
+        # (in a group of its own, so that Ctrl-C doesn't end it before its callers)
+        self.process = subprocess.Popen(words, stdin=subprocess.DEVNULL, stdout=self.out, stderr=self.out, process_group=0, **how)
 
     def end(self, number=signal.SIGTERM):
         self.process.send_signal(number)
