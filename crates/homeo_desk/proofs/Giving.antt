@@ -1,13 +1,16 @@
 -- What is given, put together.
-use Rattle.std.proofs.Common.{◌≡◌, List, [], ◌∷◌, ◌++◌, refl, sym, ap, subst, ◌∙◌, append_assoc, append-nil}
+use Rattle.std.proofs.Common.{◌≡◌, List, [], ◌∷◌, ◌++◌, map, Option, refl, sym, ap, subst, ◌∙◌, append_assoc, append-nil}
+use Rattle.std.proofs.lemmas.List.{map-append}
 use Rattle.std.specs.Prelude.{Contains}
 use Rattle.std.proofs.Common.{⊎_elim, arith}
 use Rattle.std.proofs.lemmas.List.Elements.{Contains-append_left, Contains-append_right, Contains-append_cases, Contains-push_cases}
 use Rattle.homeo_history.specs.Answers as h
 use Rattle.homeo_nodes.specs.Nodes as n
-use Rattle.homeo_desk.specs.declared.output.Answer.{Answer}
 use Rattle.homeo_desk.specs.declared.output.Output.{Output}
-use Rattle.homeo_desk.specs.Outputs.{packets_in, packets_of, AreIn, answers_in, answers_of, AreTold, none, told, untold, Gives}
+use Rattle.homeo_desk.specs.declared.output.Request.{Request}
+use Rattle.homeo_desk.specs.DeskView.{Reply, last_answers}
+use Rattle.homeo_desk.specs.Outputs.{packets_in, packets_of, AreIn, Given, answers_in, answers_of, replies_of, request_of, AreTold, none, told, Gives}
+use Rattle.homeo_desk.specs.inner.Keeping.{Tells}
 
 -- ---- packets
 pub in_itself : (ps : List n.Packet) → AreIn ps ps
@@ -36,36 +39,30 @@ packets_more (x ∷ xs) ys = ap (λ ps. packets_in x ++ ps) (packets_more xs ys)
 -- ---- answers
 pub answers_more : (xs ys : List Output) → answers_of (xs ++ ys) ≡ answers_of xs ++ answers_of ys
 answers_more [] ys = refl
-answers_more (x ∷ xs) ys = ap (λ ps. answers_in x ++ ps) (answers_more xs ys) ∙ sym (append_assoc (answers_in x) (answers_of xs) (answers_of ys))
+answers_more (x ∷ xs) ys = ap (λ gs. answers_in x ++ gs) (answers_more xs ys) ∙ sym (append_assoc (answers_in x) (answers_of xs) (answers_of ys))
 
-pub none_told : (bs : List h.Answer) → AreTold [] bs
-none_told [] = none
-none_told (b ∷ bs) = untold b [] bs (none_told bs)
+pub told_both : (gs ks : List Given) (ts bs : List h.Answer) → AreTold gs ts → AreTold ks bs → AreTold (gs ++ ks) (ts ++ bs)
+told_both gs ks ts bs none t = t
+told_both gs ks ts bs (told g b more rest says m) t = told g b (more ++ ks) (rest ++ bs) says (told_both more ks rest bs m t)
 
-pub told_both : (xs ys : List Answer) (ts bs : List h.Answer) → AreTold xs ts → AreTold ys bs → AreTold (xs ++ ys) (ts ++ bs)
-told_both xs ys ts bs none t = t
-told_both xs ys ts bs (told a b more rest says m) t = told a b (more ++ ys) (rest ++ bs) says (told_both more ys rest bs m t)
-told_both xs ys ts bs (untold b more rest m) t = untold b (more ++ ys) (rest ++ bs) (told_both more ys rest bs m t)
+pub last_more : (rs qs : List Reply) (last : List (Option Reply)) → last_answers (rs ++ qs) last ≡ last_answers qs (last_answers rs last)
+last_more [] qs last = refl
+last_more (r ∷ rs) qs last = last_more rs qs _
 
 -- ---- outputs
-pub gives_nothing : (ps : List n.Packet) (ts : List h.Answer) (before : List Output) → Gives ps ts before before
-gives_nothing ps ts before = record {
-  more = [];
-  after_is = sym (append-nil before);
-  packets_are = in_nothing ps;
-  answers_are = none_told ts;
-}
+pub gives_nothing : (ps : List n.Packet) (before : List Output) → Gives ps [] before before
+gives_nothing ps before = record { more = []; after_is = sym (append-nil before); packets_are = in_nothing ps; answers_are = refl }
 
-pub gives_then : (ps qs : List n.Packet) (ts bs : List h.Answer) (x y z : List Output) → Gives ps ts x y → Gives qs bs y z → Gives (ps ++ qs) (ts ++ bs) x z
-gives_then ps qs ts bs x y z g k = record {
+pub gives_then : (ps qs : List n.Packet) (gs ks : List Given) (x y z : List Output) → Gives ps gs x y → Gives qs ks y z → Gives (ps ++ qs) (gs ++ ks) x z
+gives_then ps qs gs ks x y z g k = record {
   more = g.more ++ k.more;
   after_is = k.after_is ∙ ap (λ before. before ++ k.more) g.after_is ∙ append_assoc x g.more k.more;
   packets_are = subst (λ l. AreIn l (ps ++ qs)) (sym (packets_more g.more k.more)) (in_both (packets_of g.more) (packets_of k.more) ps qs g.packets_are k.packets_are);
-  answers_are = subst (λ l. AreTold l (ts ++ bs)) (sym (answers_more g.more k.more)) (told_both (answers_of g.more) (answers_of k.more) ts bs g.answers_are k.answers_are);
+  answers_are = answers_more g.more k.more ∙ ap (λ l. l ++ answers_of k.more) g.answers_are ∙ ap (λ l. gs ++ l) k.answers_are;
 }
 
-pub gives_wider : (ps qs : List n.Packet) (ts : List h.Answer) (x y : List Output) → AreIn ps qs → Gives ps ts x y → Gives qs ts x y
-gives_wider ps qs ts x y i g = record {
+pub gives_wider : (ps qs : List n.Packet) (gs : List Given) (x y : List Output) → AreIn ps qs → Gives ps gs x y → Gives qs gs x y
+gives_wider ps qs gs x y i g = record {
   more = g.more;
   after_is = g.after_is;
   packets_are = λ p h. i p (g.packets_are p h);
@@ -73,11 +70,39 @@ gives_wider ps qs ts x y i g = record {
 }
 
 -- one output
-pub gives_put : (ps : List n.Packet) (ts : List h.Answer) (before after : List Output) (x : Output) → after ≡ before ++ x ∷ [] →
-    AreIn (packets_in x) ps → AreTold (answers_in x) ts → Gives ps ts before after
-gives_put ps ts before after x e i t = record {
+pub gives_put : (ps : List n.Packet) (gs : List Given) (before after : List Output) (x : Output) → after ≡ before ++ x ∷ [] →
+    AreIn (packets_in x) ps → answers_in x ≡ gs → Gives ps gs before after
+gives_put ps gs before after x e i t = record {
   more = x ∷ [];
   after_is = e;
   packets_are = subst (λ l. AreIn l ps) (sym (append-nil (packets_in x))) i;
-  answers_are = subst (λ l. AreTold l ts) (sym (append-nil (answers_in x))) t;
+  answers_are = append-nil (answers_in x) ∙ t;
+}
+
+-- ---- requests that are answered
+pub tells_nothing : (queue : List Request) (last : List (Option Reply)) (before : List Output) → Tells [] queue queue last last before before
+tells_nothing queue last before =
+    record { given = []; gives = gives_nothing [] before; told = none; queue = refl; answered = refl }
+
+pub tells_then : (ts bs : List h.Answer) (q r s : List Request) (last mid end : List (Option Reply)) (x y z : List Output) →
+    Tells ts q r last mid x y → Tells bs r s mid end y z → Tells (ts ++ bs) q s last end x z
+tells_then ts bs q r s last mid end x y z t u = record {
+  given = t.given ++ u.given;
+  gives = gives_then [] [] t.given u.given x y z t.gives u.gives;
+  told = told_both t.given u.given ts bs t.told u.told;
+  queue = t.queue ∙ ap (λ l. map request_of t.given ++ l) u.queue ∙ sym (append_assoc (map request_of t.given) (map request_of u.given) s)
+      ∙ ap (λ l. l ++ s) (sym (map-append request_of t.given u.given));
+  answered = u.answered ∙ ap (last_answers (replies_of u.given)) t.answered ∙ sym (last_more (replies_of t.given) (replies_of u.given) last)
+      ∙ ap (λ l. last_answers l last) (sym (map-append (λ (g : Given). g.reply) t.given u.given));
+}
+
+-- they are the first of a queue
+pub tells_before : (ts : List h.Answer) (q r : List Request) (last after : List (Option Reply)) (x y : List Output) →
+    Tells ts q [] last after x y → Tells ts (q ++ r) r last after x y
+tells_before ts q r last after x y t = record {
+  given = t.given;
+  gives = t.gives;
+  told = t.told;
+  queue = ap (λ l. l ++ r) t.queue ∙ append_assoc (map request_of t.given) [] r;
+  answered = t.answered;
 }

@@ -1,4 +1,9 @@
+pub mod Answering
 pub mod Giving
+pub mod Keeping
 pub mod Lists
 pub mod Moving
+pub mod Reacting
+pub mod Requests
 pub mod Resending
+pub mod Stepping

@@ -1,5 +1,6 @@
 -- Moves, put together.
-use Rattle.std.proofs.Common.{◌≡◌, List, [], ◌∷◌, ◌++◌, map, refl, sym, ap, subst, ◌∙◌, append_assoc, append-nil}
+use Rattle.std.proofs.Common.{◌≡◌, List, [], ◌∷◌, ◌++◌, map, refl, sym, ap, subst, ◌∙◌, append_assoc, append-nil, arith}
+use Rattle.std.proofs.lemmas.List.{map-append}
 use Rattle.std.specs.Prelude.{Contains, Option, Some, IfSome}
 use Rattle.homeo_syntax.specs.Source as s
 use Rattle.homeo_syntax.specs.SourceView.{plain_workload}
@@ -15,10 +16,12 @@ use Rattle.homeo_live.specs.declared.packet.Packet.{Packet}
 use Rattle.homeo_live.specs.declared.packet.Step.{Step}
 use Rattle.homeo_live.specs.LiveView.{plain_packet, plain_step, IsReaction}
 use Rattle.homeo_desk.specs.declared.output.Output.{Output}
-use Rattle.homeo_desk.specs.DeskView.{DeskValue}
+use Rattle.homeo_desk.specs.declared.output.Request.{Request}
+use Rattle.homeo_desk.specs.DeskView.{DeskValue, calls_of, last_answers}
 use Rattle.homeo_desk.specs.Moves.{reacts, sent_after, told_after, IsOf, AreOf, IsMove}
-use Rattle.homeo_desk.specs.Outputs.{AreIn, Gives}
-use Rattle.homeo_desk.proofs.Giving.{in_itself, in_nothing, in_both, gives_then}
+use Rattle.homeo_desk.specs.Outputs.{AreIn, Gives, Given, AreTold, none, request_of, replies_of}
+use Rattle.homeo_desk.specs.inner.Keeping.{Tells}
+use Rattle.homeo_desk.proofs.Giving.{in_itself, in_nothing, in_both, told_both, last_more, gives_nothing, gives_then}
 
 -- ---- inputs, one list after another
 module _ (w : s.Workload) where
@@ -69,93 +72,115 @@ module _ (w : s.Workload) where
   )
 
 -- ---- moves
-pub stays : (calls : List CallId) (ps : List n.Packet) (old new : DeskValue) (before after : List Output) →
-    new.node ≡ old.node → new.work ≡ old.work → Gives [] [] before after → IsMove calls ps old new before after
+pub stays : (ps : List n.Packet) (old new : DeskValue) (before after : List Output) → new ≡ old → Gives [] [] before after → IsMove [] ps old new before after
 unfolding definitions
-stays calls ps old new before after node work g = record {
+stays ps old new before after same g = record {
   inputs = [];
   are_of = tt;
-  node = node;
+  node = ap (λ (d : DeskValue). d.node) same;
+  given = [];
   gives = g;
-  work = work;
+  told = none;
+  queue = append-nil old.queue ∙ ap (λ (d : DeskValue). d.queue) (sym same);
+  answered = ap (λ (d : DeskValue). d.answered) same;
+  work = ap (λ (d : DeskValue). d.work) same;
+  number = ap (λ (d : DeskValue). d.node.number) same;
 }
 
-pub by_input : (calls : List CallId) (ps : List n.Packet) (old new : DeskValue) (before after : List Output) (input : Input) → IsOf calls ps input →
-    new.node ≡ small (reacts (plain_workload old.work) input old.node).node → new.work ≡ old.work →
-    Gives (reacts (plain_workload old.work) input old.node).sends (told (grown old.node) (reacts (plain_workload old.work) input old.node).step) before after →
-    IsMove calls ps old new before after
+-- by one input: its packets are let out, and its answers are told
+pub by_one : (requests : List Request) (ps : List n.Packet) (old new : DeskValue) (x y z : List Output) (input : Input) → IsOf (calls_of requests) ps input →
+    new.node ≡ small (reacts (plain_workload old.work) input old.node).node → new.work ≡ old.work → new.node.number ≡ old.node.number →
+    Gives (reacts (plain_workload old.work) input old.node).sends [] x y →
+    Tells (told (grown old.node) (reacts (plain_workload old.work) input old.node).step) (old.queue ++ requests) new.queue old.answered new.answered y z →
+    (m : IsMove requests ps old new x z) × (m.inputs ≡ input ∷ [])
 unfolding definitions
-by_input calls ps old new before after input is node work gives =
+by_one requests ps old new x y z input is node work number gives tells =
     let r = reacts (plain_workload old.work) input old.node in
-    let told_here : List h.Answer = told (grown old.node) r.step in
-    record {
+    (record {
       inputs = input ∷ [];
       are_of = (is, tt);
       node = node;
-      gives =
-          subst (λ l. Gives l (told_here ++ []) before after) (sym (append-nil r.sends))
-          (subst (λ l. Gives r.sends l before after) (sym (append-nil told_here)) gives);
+      given = tells.given;
+      gives = gives_then r.sends [] [] tells.given x y z gives tells.gives;
+      told = subst (AreTold tells.given) (sym (append-nil (told (grown old.node) r.step))) tells.told;
+      queue = tells.queue;
+      answered = tells.answered;
       work = work;
-    }
+      number = number;
+    }, refl)
 
--- what is given to the second are calls that were given to the first, and packets that were given to it or that it may have sent
-pub then : (calls : List CallId) (ps qs : List n.Packet) (a b c : DeskValue) (x y z : List Output) (m : IsMove calls ps a b x y) →
-    AreIn qs (ps ++ sent_after (plain_workload a.work) m.inputs a.node) → IsMove calls qs b c y z → IsMove calls ps a c x z
-then calls ps qs a b c x y z m i k =
+-- what is given to the second are packets that were given to the first or that it may have sent
+pub then : (requests : List Request) (ps qs : List n.Packet) (a b c : DeskValue) (x y z : List Output) (m : IsMove requests ps a b x y) →
+    AreIn qs (ps ++ sent_after (plain_workload a.work) m.inputs a.node) → IsMove [] qs b c y z → IsMove requests ps a c x z
+then requests ps qs a b c x y z m i k =
     let w = plain_workload a.work in
     let same : plain_workload b.work ≡ w = ap plain_workload m.work in
-    let of_second : AreOf w calls (ps ++ sent_after w m.inputs a.node) k.inputs (small_after w m.inputs a.node) =
-    are_of_more w calls calls qs (ps ++ sent_after w m.inputs a.node) k.inputs (small_after w m.inputs a.node) (λ call h. h) i
-    (subst (λ v. AreOf v calls qs k.inputs (small_after w m.inputs a.node)) same (subst (λ d. AreOf (plain_workload b.work) calls qs k.inputs d) m.node k.are_of)) in
-    let gives_second : Gives (sent_after w k.inputs (small_after w m.inputs a.node)) (told_after w k.inputs (small_after w m.inputs a.node)) y z =
-    subst (λ v. Gives (sent_after v k.inputs (small_after w m.inputs a.node)) (told_after v k.inputs (small_after w m.inputs a.node)) y z) same
-    (subst (λ d. Gives (sent_after (plain_workload b.work) k.inputs d) (told_after (plain_workload b.work) k.inputs d) y z) m.node k.gives) in
+    let of_second : AreOf w (calls_of requests) (ps ++ sent_after w m.inputs a.node) k.inputs (small_after w m.inputs a.node) =
+    are_of_more w [] (calls_of requests) qs (ps ++ sent_after w m.inputs a.node) k.inputs (small_after w m.inputs a.node) (λ call h. let lt = h.1 in absurd (omega arith)) i
+    (subst (λ v. AreOf v [] qs k.inputs (small_after w m.inputs a.node)) same (subst (λ d. AreOf (plain_workload b.work) [] qs k.inputs d) m.node k.are_of)) in
+    let gives_second : Gives (sent_after w k.inputs (small_after w m.inputs a.node)) k.given y z =
+    subst (λ v. Gives (sent_after v k.inputs (small_after w m.inputs a.node)) k.given y z) same
+    (subst (λ d. Gives (sent_after (plain_workload b.work) k.inputs d) k.given y z) m.node k.gives) in
+    let told_second : AreTold k.given (told_after w k.inputs (small_after w m.inputs a.node)) =
+    subst (λ v. AreTold k.given (told_after v k.inputs (small_after w m.inputs a.node))) same
+    (subst (λ d. AreTold k.given (told_after (plain_workload b.work) k.inputs d)) m.node k.told) in
     record {
       inputs = m.inputs ++ k.inputs;
-      are_of = are_of_both w calls ps m.inputs k.inputs a.node m.are_of of_second;
+      are_of = are_of_both w (calls_of requests) ps m.inputs k.inputs a.node m.are_of of_second;
       node = k.node ∙ ap (λ d. small_after (plain_workload b.work) k.inputs d) m.node ∙ ap (λ v. small_after v k.inputs (small_after w m.inputs a.node)) same
           ∙ sym (after_more w m.inputs k.inputs a.node);
+      given = m.given ++ k.given;
       gives =
-          subst (λ l. Gives l (told_after w (m.inputs ++ k.inputs) a.node) x z) (sym (sent_more w m.inputs k.inputs a.node))
-          (subst (λ l. Gives (sent_after w m.inputs a.node ++ sent_after w k.inputs (small_after w m.inputs a.node)) l x z) (sym (told_more w m.inputs k.inputs a.node))
-          (gives_then (sent_after w m.inputs a.node) (sent_after w k.inputs (small_after w m.inputs a.node)) (told_after w m.inputs a.node) (told_after w k.inputs (small_after w m.inputs a.node)) x y z m.gives gives_second));
+          subst (λ l. Gives l (m.given ++ k.given) x z) (sym (sent_more w m.inputs k.inputs a.node))
+          (gives_then (sent_after w m.inputs a.node) (sent_after w k.inputs (small_after w m.inputs a.node)) m.given k.given x y z m.gives gives_second);
+      told =
+          subst (AreTold (m.given ++ k.given)) (sym (told_more w m.inputs k.inputs a.node))
+          (told_both m.given k.given (told_after w m.inputs a.node) (told_after w k.inputs (small_after w m.inputs a.node)) m.told told_second);
+      queue =
+          m.queue ∙ ap (λ l. map request_of m.given ++ l) (sym (append-nil b.queue) ∙ k.queue)
+          ∙ sym (append_assoc (map request_of m.given) (map request_of k.given) c.queue)
+          ∙ ap (λ l. l ++ c.queue) (sym (map-append request_of m.given k.given));
+      answered =
+          k.answered ∙ ap (last_answers (replies_of k.given)) m.answered ∙ sym (last_more (replies_of m.given) (replies_of k.given) a.answered)
+          ∙ ap (λ l. last_answers l a.answered) (sym (map-append (λ (g : Given). g.reply) m.given k.given));
       work = k.work ∙ m.work;
+      number = k.number ∙ m.number;
     }
 
 -- nothing is given to the second
-pub then_free : (calls : List CallId) (ps : List n.Packet) (a b c : DeskValue) (x y z : List Output) → IsMove calls ps a b x y → IsMove calls [] b c y z → IsMove calls ps a c x z
-then_free calls ps a b c x y z m k = then calls ps [] a b c x y z m (in_nothing (ps ++ sent_after (plain_workload a.work) m.inputs a.node)) k
+pub then_free : (requests : List Request) (ps : List n.Packet) (a b c : DeskValue) (x y z : List Output) → IsMove requests ps a b x y → IsMove [] [] b c y z →
+    IsMove requests ps a c x z
+then_free requests ps a b c x y z m k =
+    then requests ps [] a b c x y z m (in_nothing (ps ++ sent_after (plain_workload a.work) m.inputs a.node)) k
 
--- more may be given
-pub of_wider : (calls more : List CallId) (ps qs : List n.Packet) (a b : DeskValue) (x y : List Output) →
-    ((c : CallId) → Contains calls c → Contains more c) → AreIn ps qs → IsMove calls ps a b x y → IsMove more qs a b x y
-of_wider calls more ps qs a b x y f i m = record {
+-- more packets may be given
+pub of_wider : (requests : List Request) (ps qs : List n.Packet) (a b : DeskValue) (x y : List Output) → AreIn ps qs → IsMove requests ps a b x y →
+    IsMove requests qs a b x y
+of_wider requests ps qs a b x y i m = record {
   inputs = m.inputs;
-  are_of = are_of_more (plain_workload a.work) calls more ps qs m.inputs a.node f i m.are_of;
+  are_of = are_of_more (plain_workload a.work) (calls_of requests) (calls_of requests) ps qs m.inputs a.node (λ c h. h) i m.are_of;
   node = m.node;
+  given = m.given;
   gives = m.gives;
+  told = m.told;
+  queue = m.queue;
+  answered = m.answered;
   work = m.work;
+  number = m.number;
 }
 
--- by one input, and then by calls that were given before and packets that were given or sent by the input
-pub input_then : (calls : List CallId) (ps qs : List n.Packet) (old new newer : DeskValue) (x y z : List Output) (input : Input) → IsOf calls ps input →
-    new.node ≡ small (reacts (plain_workload old.work) input old.node).node → new.work ≡ old.work →
-    Gives (reacts (plain_workload old.work) input old.node).sends (told (grown old.node) (reacts (plain_workload old.work) input old.node).step) x y →
-    AreIn qs (ps ++ (reacts (plain_workload old.work) input old.node).sends) → IsMove calls qs new newer y z → IsMove calls ps old newer x z
-unfolding definitions
-input_then calls ps qs old new newer x y z input is node work gives i k =
-    let r = reacts (plain_workload old.work) input old.node in
-    let told_here : List h.Answer = told (grown old.node) r.step in
-    let m : IsMove calls ps old new x y = record {
-      inputs = input ∷ [];
-      are_of = (is, tt);
-      node = node;
-      gives =
-          subst (λ l. Gives l (told_here ++ []) x y) (sym (append-nil r.sends))
-          (subst (λ l. Gives r.sends l x y) (sym (append-nil told_here)) gives);
-      work = work;
-    } in
-    then calls ps qs old new newer x y z m (subst (λ l. AreIn qs (ps ++ l)) (sym (append-nil r.sends)) i) k
+-- by one input, and then by packets that were given or sent by the input
+pub input_then : (requests : List Request) (ps qs : List n.Packet) (old new newer : DeskValue) (u x y z : List Output) (input : Input) → IsOf (calls_of requests) ps input →
+    new.node ≡ small (reacts (plain_workload old.work) input old.node).node → new.work ≡ old.work → new.node.number ≡ old.node.number →
+    Gives (reacts (plain_workload old.work) input old.node).sends [] u x →
+    Tells (told (grown old.node) (reacts (plain_workload old.work) input old.node).step) (old.queue ++ requests) new.queue old.answered new.answered x y →
+    AreIn qs (ps ++ (reacts (plain_workload old.work) input old.node).sends) → IsMove [] qs new newer y z → IsMove requests ps old newer u z
+input_then requests ps qs old new newer u x y z input is node work number gives tells i k =
+    let w = plain_workload old.work in
+    let one = by_one requests ps old new u x y input is node work number gives tells in
+    let sent : sent_after w (input ∷ []) old.node ≡ sent_after w one.0.inputs old.node = ap (λ l. sent_after w l old.node) (sym one.1) in
+    then requests ps qs old new newer u y z one.0
+    (subst (λ l. AreIn qs (ps ++ l)) (sym (append-nil (reacts w input old.node).sends) ∙ sent) i) k
 
 -- ---- by what came of an input in memory
 pub came_at : (f : s.Workload → Small → n.Reaction) (v w : Workload) (x y : Small) (o : Option Step) (step : Step) (new : Small) (before sent : List Packet) →
@@ -166,9 +191,6 @@ came_at f v w x y o step new before sent e g h is came =
     (subst (λ z. IsReaction (f (plain_workload v) x) new z sent step) h
     (subst (λ z. IfSome z (IsReaction (f (plain_workload v) x) new before sent)) is came)))
 
-pub gives_sent : (r : n.Reaction) (x : n.Node) (new : Small) (sent : List Packet) (step : Step) (a b c : List Output) → IsReaction r new [] sent step →
-    Gives (map plain_packet sent) [] a b → Gives [] (told x (plain_step step)) b c → Gives r.sends (told x r.step) a c
-gives_sent r x new sent step a b c came g k =
-    subst (λ ts. Gives r.sends ts a c) (ap (told x) came.came_to)
-    (subst (λ ps. Gives ps (told x (plain_step step)) a c) (append-nil (map plain_packet sent) ∙ came.sends)
-    (gives_then (map plain_packet sent) [] [] (told x (plain_step step)) a b c g k))
+pub gives_sent : (r : n.Reaction) (new : Small) (sent : List Packet) (step : Step) (a b : List Output) → IsReaction r new [] sent step →
+    Gives (map plain_packet sent) [] a b → Gives r.sends [] a b
+gives_sent r new sent step a b came g = subst (λ ps. Gives ps [] a b) came.sends g

@@ -1,5 +1,5 @@
 -- What a desk sends again, or by itself.
-use Rattle.std.proofs.Common.{◌≡◌, List, [], ◌∷◌, ◌++◌, ℕ, suc, ◌+◌, length, arith, map, take, drop, sym, ap, subst, ◌∙◌}
+use Rattle.std.proofs.Common.{◌≡◌, List, [], ◌∷◌, ◌++◌, ℕ, suc, ◌+◌, length, arith, map, take, drop, refl, sym, ap, subst, ◌∙◌, append-nil}
 use Rattle.std.proofs.lemmas.List.{map-append, take-append-drop}
 use Rattle.std.proofs.lemmas.List.Elements.{Contains-append_left, Contains-push}
 use Rattle.std.proofs.Common.{⊎_elim}
@@ -18,8 +18,9 @@ use Rattle.homeo_desk.specs.declared.output.Output.{Output}
 use Rattle.homeo_desk.specs.DeskView.{DeskValue}
 use Rattle.homeo_desk.specs.Moves.{IsMove}
 use Rattle.homeo_desk.specs.Outputs.{AreIn, Gives}
-use Rattle.homeo_desk.proofs.Giving.{in_itself, in_nothing, in_left, in_right, gives_wider}
-use Rattle.homeo_desk.proofs.Moving.{by_input, input_then}
+use Rattle.homeo_desk.proofs.Giving.{in_itself, in_left, in_right, gives_nothing, gives_wider, tells_nothing}
+use Rattle.homeo_desk.specs.inner.Keeping.{Tells}
+use Rattle.homeo_desk.proofs.Moving.{by_one, input_then}
 
 pub mode_resent : (x : Small) (m : Mode) → x.mode ≡ m → AreIn (of_mode (grown x) m) (resent (grown x))
 unfolding definitions
@@ -36,19 +37,21 @@ unfolding definitions
 past_resent x = in_right (of_past x.past) (of_mode (grown x) x.mode) (of_choice x.decided ++ of_past x.past)
     (in_right (of_past x.past) (of_choice x.decided) (of_past x.past) (in_itself (of_past x.past)))
 
--- the node stays, and gives some of what it would send again
-pub by_tick : (calls : List CallId) (ps qs : List n.Packet) (old new : DeskValue) (before after : List Output) → new.node ≡ old.node → new.work ≡ old.work →
-    AreIn qs (resent (grown old.node)) → Gives qs [] before after → IsMove calls ps old new before after
+-- the desk stays, and gives some of what its node would send again
+pub by_tick : (ps qs : List n.Packet) (old : DeskValue) (before after : List Output) → AreIn qs (resent (grown old.node)) → Gives qs [] before after →
+    IsMove [] ps old old before after
 unfolding definitions
-by_tick calls ps qs old new before after node work i g =
-    by_input calls ps old new before after Ticked tt node work (gives_wider qs (resent (grown old.node)) [] before after i g)
+by_tick ps qs old before after i g =
+    (by_one [] ps old old before after after Ticked tt refl refl refl (gives_wider qs (resent (grown old.node)) [] before after i g)
+    (subst (λ q. Tells [] q old.queue old.answered old.answered after after) (sym (append-nil old.queue)) (tells_nothing old.queue old.answered after))).0
 
--- the node stays, and is given some of what it would send again
-pub tick_then : (calls : List CallId) (ps qs : List n.Packet) (old new newer : DeskValue) (x y z : List Output) → new.node ≡ old.node → new.work ≡ old.work →
-    AreIn qs (resent (grown old.node)) → Gives [] [] x y → IsMove calls qs new newer y z → IsMove calls ps old newer x z
+-- the desk stays, and is given some of what its node would send again
+pub tick_then : (ps qs : List n.Packet) (old newer : DeskValue) (y z : List Output) → AreIn qs (resent (grown old.node)) → IsMove [] qs old newer y z →
+    IsMove [] ps old newer y z
 unfolding definitions
-tick_then calls ps qs old new newer x y z node work i g k =
-    input_then calls ps qs old new newer x y z Ticked tt node work (gives_wider [] (resent (grown old.node)) [] x y (in_nothing (resent (grown old.node))) g)
+tick_then ps qs old newer y z i k =
+    input_then [] ps qs old old newer y y y z Ticked tt refl refl refl (gives_nothing (resent (grown old.node)) y)
+    (subst (λ q. Tells [] q old.queue old.answered old.answered y y) (sym (append-nil old.queue)) (tells_nothing old.queue old.answered y))
     (in_right qs ps (resent (grown old.node)) i) k
 
 pub first_in : (k : ℕ) (xs : List Packet) (ps : List n.Packet) → map plain_packet xs ≡ ps → AreIn (map plain_packet (take k xs)) ps

@@ -1,3 +1,5 @@
 pub mod DeskView
+pub mod inner
 pub mod Moves
 pub mod Outputs
+pub mod Requests

@@ -1,5 +1,5 @@
 -- What a desk does, as inputs of its node.
-use Rattle.std.specs.Prelude.{◌≡◌, List, [], ◌∷◌, ◌++◌, Contains}
+use Rattle.std.specs.Prelude.{◌≡◌, List, [], ◌∷◌, ◌++◌, map, Contains}
 use Rattle.homeo_syntax.specs.Source as s
 use Rattle.homeo_syntax.specs.SourceView.{plain_workload}
 use Rattle.homeo_meaning.specs.declared.call.CallId.{CallId}
@@ -9,8 +9,9 @@ use Rattle.homeo_nodes.specs.Nodes.{Reaction, Input, Asked, Served, Came, Withdr
 use Rattle.homeo_nodes.specs.Small.{Small, small, grown, small_after}
 use Rattle.homeo_nodes.specs.Told.{told}
 use Rattle.homeo_desk.specs.declared.output.Output.{Output}
-use Rattle.homeo_desk.specs.DeskView.{DeskValue}
-use Rattle.homeo_desk.specs.Outputs.{Gives}
+use Rattle.homeo_desk.specs.declared.output.Request.{Request}
+use Rattle.homeo_desk.specs.DeskView.{DeskValue, calls_of, last_answers}
+use Rattle.homeo_desk.specs.Outputs.{Given, Gives, AreTold, request_of, replies_of}
 
 -- ---- what inputs make of a node, one after another
 abbrev pub reacts : s.Workload → Input → Small → Reaction
@@ -38,12 +39,18 @@ AreOf w calls packets [] x = Unit {0}
 AreOf w calls packets (input ∷ inputs) x =
     IsOf calls packets input × AreOf w calls (packets ++ (reacts w input x).sends) inputs (small (reacts w input x).node)
 
--- ---- a move of a desk, to which these calls and packets were given
--- By some inputs its node becomes what they make of it, and it gives packets of those that the node sends by them, and what the node
--- answers by them. The workload stays.
-pub record IsMove (calls : List CallId) (packets : List n.Packet) (old new : DeskValue) (before after : List Output) : Type 0 where
+-- ---- a move of a desk, which takes on these requests, and to which these packets were given
+-- By some inputs its node becomes what they make of it. It gives packets of those that the node sends by them, and the answers that the node
+-- tells by them, each to the request that waited longest: the requests that waited and those that are taken on are those that are answered
+-- and those that wait then, in order. The workload and the number of the site stay.
+pub record IsMove (requests : List Request) (packets : List n.Packet) (old new : DeskValue) (before after : List Output) : Type 0 where
   pub inputs : List Input
-  pub are_of : AreOf (plain_workload old.work) calls packets inputs old.node
+  pub are_of : AreOf (plain_workload old.work) (calls_of requests) packets inputs old.node
   pub node : new.node ≡ small_after (plain_workload old.work) inputs old.node
-  pub gives : Gives (sent_after (plain_workload old.work) inputs old.node) (told_after (plain_workload old.work) inputs old.node) before after
+  pub given : List Given
+  pub gives : Gives (sent_after (plain_workload old.work) inputs old.node) given before after
+  pub told : AreTold given (told_after (plain_workload old.work) inputs old.node)
+  pub queue : old.queue ++ requests ≡ map request_of given ++ new.queue
+  pub answered : new.answered ≡ last_answers (replies_of given) old.answered
   pub work : new.work ≡ old.work
+  pub number : new.node.number ≡ old.node.number

@@ -1,15 +1,24 @@
 //! What a desk keeps beside its node.
 
-ghost use Rattle.std.specs.Prelude.{◌≡◌, ◌++◌, ◌∷◌, [], drop, length, map, IfOk, IsTrue, OnOk};
+ghost use Rattle.std.specs.Prelude.{◌≡◌, ◌<◌, ◌++◌, ◌∷◌, [], ◌==◌, All, None, cond, drop, length, map, replicate, slice_index_or, take, IfOk, IsTrue, OnOk};
+ghost use Rattle.std.specs.VecDeque.{deque_len, deque_capacity};
+ghost use Rattle.std.specs.List.{filter_map, list_any};
+ghost use Rattle.homeo_syntax.specs.SourceView.{plain_workload};
+ghost use Rattle.homeo_history.specs.Answers.{called};
 ghost use Rattle.homeo_history.specs.HistoryView.{plain_answer};
-ghost use Rattle.homeo_desk.specs.Outputs.{Gives, plain_path};
+ghost use Rattle.homeo_history.specs.Legal.{IsCallAt};
+ghost use Rattle.homeo_live.specs.LiveView.{plain_step};
+ghost use Rattle.homeo_desk.specs.DeskView.{calls_of, last_answers, plain_reply};
+ghost use Rattle.homeo_desk.specs.Outputs.{plain_path};
+ghost use Rattle.homeo_desk.specs.Requests.{after_last, among, is_later, is_same};
+ghost use Rattle.homeo_desk.specs.inner.Keeping.{AreLast, KeepsLast, Tells, closed_by};
+ghost use Rattle.homeo_desk.specs.inner.Known.{IsKnown};
 
 use crate::answered::Answered;
 use crate::output::{Answer, Output, Path, Request};
 use crate::places::Places;
 use homeo_history::Answer as Made;
-use homeo_live::LiveNode;
-use homeo_meaning::CallId;
+use homeo_live::{LiveNode, MOST_WAITING, Step};
 use homeo_syntax::{List, Memory};
 use std::alloc::Global;
 use std::collections::VecDeque;
@@ -23,12 +32,13 @@ pub(crate) struct Callers {
     places: Places,
 }
 
-/// What is known of a request: it was answered by this, it waits, it comes too late, or it is new.
+/// What is known of a request: it was answered by this, it waits, it comes too late, or it is new, and there is room or not.
 #[derive(Drop)]
-pub(crate) enum Standing<'a> {
+pub(crate) enum Known<'a> {
     Answered(&'a Answer),
     Waits,
     Late,
+    Full,
     New,
 }
 
@@ -41,7 +51,10 @@ impl Callers {
         made: u64,
         requests: Vec<Request>,
     ) -> Result<Callers, Memory>
-        ensures { IfOk result (λ c. c.queue.items ≡ requests.items) }
+        ensures queue { IfOk result (λ c. c.queue.items ≡ requests.items) }
+        ensures answered { IfOk result (λ c. c.answered ≡ replicate clients None) }
+        ensures round { IfOk result (λ c. c.places.round ≡ round) }
+        ensures made { IfOk result (λ c. c.places.made ≡ made) }
     {
         Ok(Callers {
             queue: VecDeque::from(requests),
@@ -58,7 +71,9 @@ impl Callers {
     }
 
     /// Equal requests, in order.
-    pub(crate) fn requests(&self, alloc: Global) -> Result<Vec<Request>, Memory> {
+    pub(crate) fn requests(&self, alloc: Global) -> Result<Vec<Request>, Memory>
+        ensures { IfOk result (λ r. r.items ≡ self.now.queue.items) }
+    {
         let mut requests = Vec::new(alloc);
         for request in self.queue.iter() {
             requests.push(request.copy(alloc)?)?;
@@ -67,56 +82,98 @@ impl Callers {
     }
 
     /// Equal answers, in the order of the clients.
-    pub(crate) fn answers(&self, alloc: Global) -> Result<Vec<Answer>, Memory> {
+    pub(crate) fn answers(&self, alloc: Global) -> Result<Vec<Answer>, Memory>
+        ensures { IfOk result (λ a. map plain_reply a.items ≡ filter_map (λ o. o) self.now.answered) }
+    {
         self.answered.copies(alloc)
     }
 
     /// How many calls the site has made alone in a round that isn't over.
-    pub(crate) fn made_in(&self, round: u64) -> u64 {
+    pub(crate) fn made_in(&self, round: u64) -> u64
+        ensures { result ≡ cond (self.now.places.round == round) self.now.places.made 0 }
+    {
         self.places.made_in(round)
     }
 
     /// What is known of a request.
-    pub(crate) fn standing(&self, request: &Request) -> Standing<'_> {
+    pub(crate) fn known(&self, request: &Request) -> Known<'_>
+        ensures { IsKnown result (after_last self.now.queue.items request.now (slice_index_or self.now.answered request.now.call.client None)) }
+    {
         match self.answered.of(request.call.client) {
             Some(answer) => {
                 if request.number == answer.number {
-                    return Standing::Answered(answer);
+                    return Known::Answered(answer);
                 }
                 if request.number < answer.number {
-                    return Standing::Late;
+                    return Known::Late;
                 }
-                self.standing_in_queue(request)
+                self.known_by_queue(request)
             }
-            None => self.standing_in_queue(request),
+            None => self.known_by_queue(request),
         }
     }
 
     /// What is known of a request that comes after the last answer of its client.
-    fn standing_in_queue(&self, request: &Request) -> Standing<'_> {
-        for waiting in self.queue.iter() {
-            if waiting.call.client == request.call.client {
-                if request.number == waiting.number {
-                    return Standing::Waits;
-                }
-                if request.number < waiting.number {
-                    return Standing::Late;
-                }
-            }
+    fn known_by_queue(&self, request: &Request) -> Known<'_>
+        ensures { IsKnown result (among self.now.queue.items request.now) }
+    {
+        if self.has_same(request) {
+            return Known::Waits;
         }
-        Standing::New
+        if self.has_later(request) {
+            return Known::Late;
+        }
+        if self.waiting() >= MOST_WAITING {
+            return Known::Full;
+        }
+        Known::New
     }
 
-    /// A request waits behind the others.
-    pub(crate) fn add(&mut self, request: Request) -> Result<(), Memory>
-        ensures { OnOk result (self.new.queue.items ≡ self.old.queue.items ++ request ∷ []) }
+    /// Whether a request of this number of the client waits.
+    fn has_same(&self, request: &Request) -> bool
+        ensures { result ≡ list_any (is_same request.now) self.now.queue.items }
     {
-        Ok(self.queue.push_back(request)?)
+        self.queue.iter().any(|waiting| {
+            waiting.call.client == request.call.client && waiting.number == request.number
+        })
+    }
+
+    /// Whether a request of a higher number of the client waits.
+    fn has_later(&self, request: &Request) -> bool
+        ensures { result ≡ list_any (is_later request.now) self.now.queue.items }
+    {
+        self.queue.iter().any(|waiting| {
+            waiting.call.client == request.call.client && request.number < waiting.number
+        })
+    }
+
+    /// Makes room for a request more.
+    pub(crate) fn reserve(&mut self) -> Result<(), Memory>
+        ensures room { OnOk result (deque_len self.new.queue < deque_capacity self.new.queue) }
+        ensures queue { self.new.queue.items ≡ self.old.queue.items }
+        ensures answered { self.new.answered ≡ self.old.answered }
+        ensures places { self.new.places ≡ self.old.places }
+    {
+        Ok(self.queue.reserve(1)?)
+    }
+
+    /// A request waits behind the others, for which there is room.
+    pub(crate) fn add(&mut self, request: Request)
+        requires { deque_len self.old.queue < deque_capacity self.old.queue }
+        ensures queue { self.new.queue.items ≡ self.old.queue.items ++ request ∷ [] }
+        ensures answered { self.new.answered ≡ self.old.answered }
+        ensures places { self.new.places ≡ self.old.places }
+    {
+        self.queue.push_back_reserved(request);
     }
 
     /// Keeps the last answers of clients, where each is to a call of the node's site.
     pub(crate) fn keep(&mut self, node: &LiveNode, answers: Vec<Answer>) -> bool
-        ensures { self.new.queue.items ≡ self.old.queue.items }
+        ensures queue { self.new.queue.items ≡ self.old.queue.items }
+        ensures places { self.new.places ≡ self.old.places }
+        ensures answered { IsTrue result → self.new.answered ≡ last_answers (map plain_reply answers.items) self.old.answered }
+        ensures last { AreLast (plain_workload node.now.work) node.now.node.number self.old.answered → AreLast (plain_workload node.now.work) node.now.node.number self.new.answered }
+        ensures no { All (λ a. IsCallAt (plain_workload node.now.work) node.now.node.number a.call) answers.items → IsTrue result }
     {
         for answer in answers {
             if !node.can_ask(answer.call) {
@@ -127,41 +184,65 @@ impl Callers {
         true
     }
 
+    /// Answers the requests whose calls were made by the end of the round, if it has ended: they are the first that wait. These are
+    /// gone also where the memory for an answer lacks.
+    pub(crate) fn tell(
+        &mut self,
+        alloc: Global,
+        step: Step,
+        outputs: &mut List<Output>,
+    ) -> Result<(), Memory>
+        requires { take (length (closed_by (plain_step step))) (calls_of self.old.queue.items) ≡ map called (closed_by (plain_step step)) }
+        ensures queue { self.new.queue.items ≡ drop (length (closed_by (plain_step step))) self.old.queue.items }
+        ensures tells { OnOk result (Tells (closed_by (plain_step step)) self.old.queue.items self.new.queue.items self.old.answered self.new.answered outputs.old.items outputs.new.items) }
+        ensures last { KeepsLast (closed_by (plain_step step)) self.old.answered self.new.answered }
+    {
+        match step {
+            Step::Closed(answers) => self.answer_all(alloc, answers, outputs),
+            _ => Ok(()),
+        }
+    }
+
     /// Answers the first requests that wait, whose calls were made, one after another.
-    pub(crate) fn answer_all(
+    fn answer_all(
         &mut self,
         alloc: Global,
         answers: List<Made>,
         outputs: &mut List<Output>,
     ) -> Result<(), Memory>
-        ensures queue { OnOk result (self.new.queue.items ≡ drop (length answers.items) self.old.queue.items) }
-        ensures gives { OnOk result (Gives [] (map plain_answer answers.items) outputs.old.items outputs.new.items) }
+        requires { take (length answers.items) (calls_of self.old.queue.items) ≡ map called (map plain_answer answers.items) }
+        ensures queue { self.new.queue.items ≡ drop (length answers.items) self.old.queue.items }
+        ensures tells { OnOk result (Tells (map plain_answer answers.items) self.old.queue.items self.new.queue.items self.old.answered self.new.answered outputs.old.items outputs.new.items) }
+        ensures last { KeepsLast (map plain_answer answers.items) self.old.answered self.new.answered }
     {
+        let mut done = Ok(());
         for made in answers.into_vec() {
-            self.answer(alloc, made, outputs)?;
+            let one = self.answer(alloc, made, outputs);
+            done = done.and(one);
         }
-        Ok(())
+        done
     }
 
-    /// Answers the first request that waits, whose call was made. Where another call was made, which takes a packet that no node
-    /// has sent, the request may be asked again.
+    /// Answers the first request that waits, whose call was made. It is gone also where the memory for the answer lacks.
     pub(crate) fn answer(
         &mut self,
         alloc: Global,
         made: Made,
         outputs: &mut List<Output>,
     ) -> Result<(), Memory>
+        requires { take 1 (calls_of self.old.queue.items) ≡ called (plain_answer made) ∷ [] }
         ensures queue { self.new.queue.items ≡ drop 1 self.old.queue.items }
-        ensures gives { OnOk result (Gives [] (plain_answer made ∷ []) outputs.old.items outputs.new.items) }
+        ensures tells { OnOk result (Tells (plain_answer made ∷ []) self.old.queue.items self.new.queue.items self.old.answered self.new.answered outputs.old.items outputs.new.items) }
+        ensures last { KeepsLast (plain_answer made ∷ []) self.old.answered self.new.answered }
     {
         let path = self.places.next(made.round, made.path);
         match self.queue.pop_front() {
             Some(request) => self.answer_request(alloc, request, made, path, outputs),
-            None => Ok(()),
+            None => unreachable!(),
         }
     }
 
-    /// Answers a request, if it is its call that was made.
+    /// Answers a request, whose call was made.
     fn answer_request(
         &mut self,
         alloc: Global,
@@ -170,13 +251,12 @@ impl Callers {
         path: Path,
         outputs: &mut List<Output>,
     ) -> Result<(), Memory>
-        requires { plain_path path ≡ made.path }
+        requires call { request.call ≡ called (plain_answer made) }
+        requires path { plain_path path ≡ made.path }
         ensures queue { self.new.queue.items ≡ self.old.queue.items }
-        ensures gives { OnOk result (Gives [] (plain_answer made ∷ []) outputs.old.items outputs.new.items) }
+        ensures tells { OnOk result (Tells (plain_answer made ∷ []) (request ∷ []) [] self.old.answered self.new.answered outputs.old.items outputs.new.items) }
+        ensures last { KeepsLast (plain_answer made ∷ []) self.old.answered self.new.answered }
     {
-        if !is_of(request.call, &made) {
-            return Ok(());
-        }
         let answer = Answer {
             number: request.number,
             call: request.call,
@@ -188,12 +268,4 @@ impl Callers {
         outputs.push(Output::Answer(request.caller, answer))?;
         Ok(())
     }
-}
-
-/// Whether it is this call that was made.
-fn is_of(call: CallId, made: &Made) -> bool
-    ensures client { IsTrue result → call.client ≡ made.now.client }
-    ensures seq { IsTrue result → call.seq ≡ made.now.seq }
-{
-    call.client == made.client && call.seq == made.seq
 }

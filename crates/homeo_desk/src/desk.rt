@@ -1,25 +1,28 @@
 //! A desk.
 
-ghost use Rattle.std.specs.Prelude.{◌≡◌, ◌<◌, ◌≤◌, ◌∷◌, ◌⊎◌, [], Some, length, map, Contains, IfOk, IfSome, OnOk};
+ghost use Rattle.std.specs.Prelude.{◌≡◌, ◌<◌, ◌∷◌, ◌++◌, [], None, Some, length, replicate, IfOk, IfSome, IsSome, OnOk};
 ghost use Rattle.homeo_syntax.specs.SourceView.{plain_workload};
 ghost use Rattle.homeo_plan.specs.Planned.{sites_of};
 ghost use Rattle.homeo_history.specs.Legal.{IsCallAt};
 ghost use Rattle.homeo_history.specs.Answers.{local_answer};
 ghost use Rattle.homeo_history.specs.HistoryView.{plain_answer};
 ghost use Rattle.homeo_nodes.specs.Nodes as n;
-ghost use Rattle.homeo_nodes.specs.Nodes.{asked, of_past};
-ghost use Rattle.homeo_nodes.specs.Small.{small, grown};
-ghost use Rattle.homeo_nodes.specs.Told.{told};
-ghost use Rattle.homeo_live.specs.LiveView.{plain_packet, plain_past, plain_step};
-ghost use Rattle.homeo_desk.specs.DeskView.{IsPaired};
+ghost use Rattle.homeo_nodes.specs.Nodes.{first_node, of_past};
+ghost use Rattle.homeo_nodes.specs.Small.{small};
+ghost use Rattle.homeo_live.specs.LiveView.{plain_node, plain_packet, plain_past, IsReached};
+ghost use Rattle.homeo_desk.specs.declared.output.Output.TheVariants as o;
+ghost use Rattle.homeo_desk.specs.DeskView.{desk_of, CanBegin, IsPaired};
 ghost use Rattle.homeo_desk.specs.Moves.{IsMove};
-ghost use Rattle.homeo_desk.specs.Outputs.{Gives};
+ghost use Rattle.homeo_desk.specs.Requests.{standing, taken_on, Replies};
+ghost use Rattle.homeo_desk.specs.inner.Delivering.{Delivers, IsTaken};
 
-use crate::callers::{Callers, Standing};
-use crate::output::{Output, Request, To, Why};
+use crate::callers::{Callers, Known};
+use crate::fits::{fits_queue, keeps_first};
+use crate::output::{Output, Request, Why};
+use crate::sending::{arbiter, let_out, let_out_all, sites, tell_left, tell_stop};
 use crate::state::{DeskState, are_of};
 use homeo_build::Compiled;
-use homeo_core::clients::{client_count, site_count};
+use homeo_core::clients::client_count;
 use homeo_history::{Answer as Made, Path as Way};
 use homeo_live::{LiveNode, MOST_WAITING, Packet, Past, Step};
 use homeo_meaning::CallId;
@@ -36,16 +39,28 @@ pub struct Desk {
     callers: Callers,
 }
 
+/// What became of a packet: no node can have sent it, or it was taken, and maybe the node has chosen by it which call closes the round.
+#[derive(Clone, Copy)]
+enum Delivered {
+    No,
+    Yes,
+    Chose(Breach),
+}
+
 impl Model for Desk {
+    ghost use Rattle.std.specs.Prelude.{◌==◌, cond};
     ghost use Rattle.std.specs.Coded.{codes};
     ghost use Rattle.homeo_syntax.specs.contracts.workload.Workload as workload;
     ghost use Rattle.homeo_desk.specs.DeskView.{DeskValue};
+    ghost use Rattle.homeo_desk.specs.inner.Keeping.{IsKept, value_of};
 
     ghost Value = { DeskValue };
 
     ghost coded = { Prim.hlevel (codes, workload.the_row.coded) };
 
-    ghost view = { λ d. record { work = d.node.work; node = d.node.node; queue = d.callers.queue.items } };
+    ghost view = { λ d. value_of d.node.work d.node.node d.callers.places d.callers.queue.items d.callers.answered };
+
+    ghost invariant = { λ d. IsKept (value_of d.node.work d.node.node d.callers.places d.callers.queue.items d.callers.answered) };
 }
 
 impl Desk {
@@ -54,11 +69,15 @@ impl Desk {
     /// # Errors
     ///
     /// `Memory` when out of memory.
-    #[tactic(auto, unfolding(homeo_nodes::specs::Key::definitions))]
     pub fn begin(alloc: Global, c: Arc<Compiled>, site: u32) -> Result<Desk, Memory>
         requires { site < sites_of (plain_workload c.value) }
-        ensures work { IfOk result (λ d. d.work ≡ c.value) }
-        ensures paired { IfOk result IsPaired }
+        ensures { IfOk result (λ d. d ≡ record {
+            work = c.value;
+            node = small (first_node (plain_workload c.value) site);
+            made = 0;
+            queue = [];
+            answered = replicate (length (plain_workload c.value).clients) None;
+        }) }
     {
         let clients = client_count(c.workload());
         let callers = Callers::of(alloc, clients, 0, 0, Vec::new(alloc))?;
@@ -66,19 +85,19 @@ impl Desk {
         Ok(Desk { node, callers })
     }
 
-    /// The desk that has this state, where a desk of the workload can have it.
+    /// The desk that has this state, where a desk of the workload can have it: of a state of a desk whose node is one that nodes have
+    /// led to there is one.
     ///
     /// # Errors
     ///
     /// `Memory` when out of memory.
-    #[tactic(auto, unfolding(homeo_live::specs::Key::definitions))]
     pub fn begin_at(
         alloc: Global,
         c: Arc<Compiled>,
         state: DeskState,
     ) -> Result<Option<Desk>, Memory>
-        ensures work { IfOk result (λ o. IfSome o (λ d. d.work ≡ c.value)) }
-        ensures paired { IfOk result (λ o. IfSome o IsPaired) }
+        ensures state { IfOk result (λ o. IfSome o (λ d. d ≡ desk_of c.value state)) }
+        ensures reached { IsReached (plain_workload c.value) (plain_node state.node) → CanBegin (plain_workload c.value) state → IfOk result IsSome }
     {
         let DeskState {
             node,
@@ -87,6 +106,9 @@ impl Desk {
             answered: answers,
         } = state;
         if !are_of(requests.as_slice(), node.queue.as_slice()) {
+            return Ok(None);
+        }
+        if !keeps_first(&node) {
             return Ok(None);
         }
         let clients = client_count(c.workload());
@@ -105,12 +127,19 @@ impl Desk {
     /// # Errors
     ///
     /// `Memory` when out of memory.
-    pub fn state(&self, alloc: Global) -> Result<DeskState, Memory> {
+    pub fn state(&self, alloc: Global) -> Result<DeskState, Memory>
+        ensures state { IfOk result (λ s. desk_of self.now.work s ≡ self.now) }
+        ensures can_begin { IfOk result (CanBegin (plain_workload self.now.work)) }
+    {
+        let node = self.node.state(alloc)?;
+        let made = self.callers.made_in(self.node.round());
+        let queue = self.callers.requests(alloc)?;
+        let answered = self.callers.answers(alloc)?;
         Ok(DeskState {
-            node: self.node.state(alloc)?,
-            made: self.callers.made_in(self.node.round()),
-            queue: self.callers.requests(alloc)?,
-            answered: self.callers.answers(alloc)?,
+            node,
+            made,
+            queue,
+            answered,
         })
     }
 
@@ -122,9 +151,10 @@ impl Desk {
         &self.node
     }
 
-    /// How many requests wait.
+    /// How many requests wait: one for each of the node's calls that wait.
     pub fn waiting(&self) -> usize
-        ensures { result ≡ length self.now.queue }
+        ensures count { result ≡ length self.now.queue }
+        ensures paired { IsPaired self.now }
     {
         self.callers.waiting()
     }
@@ -142,20 +172,25 @@ impl Desk {
     ) -> Result<(), Memory>
         requires { IsCallAt (plain_workload self.old.work) self.old.node.number request.call }
         ensures work { self.new.work ≡ self.old.work }
-        ensures moves { OnOk result (IsMove (request.call ∷ []) [] self.old self.new outputs.old.items outputs.new.items) }
+        ensures replies { OnOk result (Replies (standing self.old request) request self.old self.new outputs.old.items outputs.new.items) }
+        ensures moves { OnOk result (IsMove (taken_on (standing self.old request) request) [] self.old self.new outputs.old.items outputs.new.items) }
     {
-        match self.callers.standing(&request) {
-            Standing::Answered(answer) => {
+        match self.callers.known(&request) {
+            Known::Answered(answer) => {
                 let again = answer.copy(alloc)?;
                 outputs.push(Output::Again(request.caller, again))?;
                 Ok(())
             }
-            Standing::Waits => Ok(()),
-            Standing::Late => {
+            Known::Waits => Ok(()),
+            Known::Late => {
                 refuse(request, Why::Late, outputs)?;
                 Ok(())
             }
-            Standing::New => self.take_on(alloc, request, outputs),
+            Known::Full => {
+                refuse(request, Why::Full, outputs)?;
+                Ok(())
+            }
+            Known::New => self.take_on(alloc, request, outputs),
         }
     }
 
@@ -166,29 +201,16 @@ impl Desk {
         request: Request,
         outputs: &mut List<Output>,
     ) -> Result<(), Memory>
-        requires { IsCallAt (plain_workload self.old.work) self.old.node.number request.call }
+        requires call { IsCallAt (plain_workload self.old.work) self.old.node.number request.call }
+        requires room { length self.old.queue < 64 }
         ensures work { self.new.work ≡ self.old.work }
-        ensures moves { OnOk result (IsMove (request.call ∷ []) [] self.old self.new outputs.old.items outputs.new.items) }
+        ensures moves { OnOk result (IsMove (request ∷ []) [] self.old self.new outputs.old.items outputs.new.items) }
     {
-        if !self.queue(request.call)? {
-            refuse(request, Why::Full, outputs)?;
-            return Ok(());
-        }
-        self.callers.add(request)?;
+        self.callers.reserve()?;
+        let _queued = self.node.ask(request.call)?;
+        self.callers.add(request);
         self.serve(alloc, outputs)?;
         Ok(())
-    }
-
-    /// Makes a call wait at the node, and says whether it does: not too many wait.
-    fn queue(&mut self, call: CallId) -> Result<bool, Memory>
-        requires { IsCallAt (plain_workload self.old.work) self.old.node.number call }
-        ensures node { OnOk result (self.new.node ≡ small (asked call (grown self.old.node)).node) }
-        ensures work { self.new.work ≡ self.old.work }
-    {
-        match self.node.ask(call)? {
-            Step::Queued => Ok(true),
-            _ => Ok(false),
-        }
     }
 
     /// Takes a packet from a site. It says whether a node can have sent it; if none can, nothing has changed, but that a want may
@@ -208,12 +230,12 @@ impl Desk {
         ensures moves { OnOk result (IsMove [] (plain_packet packet ∷ []) self.old self.new outputs.old.items outputs.new.items) }
     {
         if packet.round() != self.node.round() {
-            self.tell_left(alloc, from, packet.round(), outputs)?;
+            tell_left(&self.node, alloc, from, packet.round(), outputs)?;
             return Ok(true);
         }
         match (&packet, self.node.decided()) {
             (Packet::Want(_), Some(chosen)) => {
-                self.tell_stop(from, chosen, outputs)?;
+                tell_stop(&self.node, from, chosen, outputs)?;
                 Ok(true)
             }
             _ => {
@@ -257,7 +279,7 @@ impl Desk {
         ensures work { self.new.work ≡ self.old.work }
         ensures moves { OnOk result (IsMove [] (of_past (Some (plain_past past))) self.old self.new outputs.old.items outputs.new.items) }
     {
-        if past.states.len() != self.sites() as usize {
+        if past.states.len() != sites(&self.node) as usize {
             return Ok(false);
         }
         let Past { breach, states } = past;
@@ -291,85 +313,7 @@ impl Desk {
         self.node.resend(alloc, &mut sent)?;
         let mut first = sent.into_vec();
         first.truncate(count);
-        self.let_out_all(List::from_vec(first), outputs)?;
-        Ok(())
-    }
-
-    /// How many sites there are, from 1 to 16.
-    #[tactic(auto, using(homeo_plan::proofs::Policy::some_sites))]
-    fn sites(&self) -> u32
-        ensures count { result ≡ sites_of (plain_workload self.now.work) }
-        ensures some { 0 < result }
-        ensures few { result ≤ 16 }
-    {
-        let w = self.node.compiled().workload();
-        // the workload is accepted
-        let _clients = client_count(w);
-        site_count(w)
-    }
-
-    /// The site of the round's arbiter.
-    fn arbiter(&self) -> u32
-        ensures { result < sites_of (plain_workload self.now.work) }
-    {
-        (self.node.round() % u64::from(self.sites())) as u32
-    }
-
-    /// Those that a packet is for; there are none where that is the node itself.
-    fn receiver(&self, packet: &Packet) -> Option<To> {
-        match packet {
-            Packet::Want(_) => {
-                let arbiter = self.arbiter();
-                if arbiter == self.node.number() {
-                    return None;
-                }
-                Some(To::Site(arbiter))
-            }
-            _ => Some(To::Others),
-        }
-    }
-
-    /// Lets out a packet to those that it is for.
-    fn let_out(&self, packet: Packet, outputs: &mut List<Output>) -> Result<(), Memory>
-        ensures { OnOk result (Gives (plain_packet packet ∷ []) [] outputs.old.items outputs.new.items) }
-    {
-        match self.receiver(&packet) {
-            Some(to) => {
-                outputs.push(Output::Packet(to, packet))?;
-                Ok(())
-            }
-            None => Ok(()),
-        }
-    }
-
-    /// Tells a site which call was chosen to close the round.
-    fn tell_stop(&self, to: u32, chosen: Breach, outputs: &mut List<Output>) -> Result<(), Memory>
-        ensures { OnOk result (Gives (n.Stop chosen ∷ []) [] outputs.old.items outputs.new.items) }
-    {
-        if to == self.node.number() {
-            return Ok(());
-        }
-        outputs.push(Output::Packet(To::Site(to), Packet::Stop(chosen)))?;
-        Ok(())
-    }
-
-    /// Tells a site how the node closed this round, if it is the one that it stopped in last.
-    fn tell_left(
-        &self,
-        alloc: Global,
-        to: u32,
-        round: u64,
-        outputs: &mut List<Output>,
-    ) -> Result<(), Memory>
-        ensures { OnOk result (Gives (of_past self.now.node.past) [] outputs.old.items outputs.new.items) }
-    {
-        let Some(past) = self.node.past() else {
-            return Ok(());
-        };
-        if past.breach.round != round || to == self.node.number() {
-            return Ok(());
-        }
-        outputs.push(Output::Left(to, past.copy(alloc)?))?;
+        let_out_all(&self.node, List::from_vec(first), outputs)?;
         Ok(())
     }
 
@@ -383,18 +327,14 @@ impl Desk {
         ensures work { self.new.work ≡ self.old.work }
         ensures moves { OnOk result (IsMove [] (plain_packet packet ∷ []) self.old self.new outputs.old.items outputs.new.items) }
     {
-        let mut sent = List::new(alloc);
-        let Some(step) = self.node.receive(alloc, packet, &mut sent)? else {
-            return Ok(false);
-        };
-        let chosen = self.let_out_all(sent, outputs)?;
-        self.tell(alloc, step, outputs)?;
-        match chosen {
-            Some(breach) => {
+        let delivered = self.deliver(alloc, packet, outputs)?;
+        match delivered {
+            Delivered::No => Ok(false),
+            Delivered::Yes => Ok(true),
+            Delivered::Chose(breach) => {
                 let fits = self.stop(alloc, breach, outputs)?;
                 Ok(fits)
             }
-            None => Ok(true),
         }
     }
 
@@ -408,45 +348,35 @@ impl Desk {
         ensures work { self.new.work ≡ self.old.work }
         ensures moves { OnOk result (IsMove [] (n.Stop breach ∷ []) self.old self.new outputs.old.items outputs.new.items) }
     {
-        let mut sent = List::new(alloc);
-        let Some(step) = self.node.receive(alloc, Packet::Stop(breach), &mut sent)? else {
-            return Ok(false);
-        };
-        self.let_out_all(sent, outputs)?;
-        self.tell(alloc, step, outputs)?;
-        Ok(true)
+        let delivered = self.deliver(alloc, Packet::Stop(breach), outputs)?;
+        match delivered {
+            Delivered::No => Ok(false),
+            _ => Ok(true),
+        }
     }
 
-    /// Lets out what the node has sent, and gives the stop that is among it.
-    fn let_out_all(
-        &self,
-        sent: List<Packet>,
+    /// Makes the node take a packet, where it fits the calls that wait. The requests that wait stay those of these calls, also where
+    /// memory lacks.
+    fn deliver(
+        &mut self,
+        alloc: Global,
+        packet: Packet,
         outputs: &mut List<Output>,
-    ) -> Result<Option<Breach>, Memory>
-        ensures gives { OnOk result (Gives (map plain_packet sent.items) [] outputs.old.items outputs.new.items) }
-        ensures chosen { IfOk result (λ o. IfSome o (λ b. Contains (map plain_packet sent.items) (n.Stop b))) }
-    {
-        let mut chosen = None;
-        for packet in sent.into_vec() {
-            chosen = stop_in(&packet, chosen);
-            self.let_out(packet, outputs)?;
-        }
-        Ok(chosen)
-    }
-
-    /// Answers the requests whose calls were made by the end of the round, if it has ended: they are the first that wait.
-    fn tell(&mut self, alloc: Global, step: Step, outputs: &mut List<Output>) -> Result<(), Memory>
+    ) -> Result<Delivered, Memory>
         ensures work { self.new.work ≡ self.old.work }
-        ensures node { self.new.node ≡ self.old.node }
-        ensures gives { (x : n.Node) → OnOk result (Gives [] (told x (plain_step step)) outputs.old.items outputs.new.items) }
+        ensures delivers { IfOk result (λ d. Delivers (plain_packet packet) d self.old self.new outputs.old.items outputs.new.items) }
     {
-        match step {
-            Step::Closed(answers) => {
-                self.callers.answer_all(alloc, answers, outputs)?;
-                Ok(())
-            }
-            _ => Ok(()),
+        if !fits_queue(&packet, self.node.number(), self.node.queue()) {
+            return Ok(Delivered::No);
         }
+        let mut sent = List::new(alloc);
+        let Some(step) = self.node.receive(alloc, packet, &mut sent)? else {
+            return Ok(Delivered::No);
+        };
+        let chosen = let_out_all(&self.node, sent, outputs);
+        self.callers.tell(alloc, step, outputs)?;
+        let stop = chosen?;
+        Ok(taken_by(stop))
     }
 
     /// Goes on with the requests that wait, one after another, while the node runs.
@@ -492,23 +422,22 @@ impl Desk {
         let Mode::Waiting(breach) = self.node.mode() else {
             return Ok(());
         };
-        if self.arbiter() == self.node.number() {
+        if arbiter(&self.node) == self.node.number() {
             self.take(alloc, Packet::Want(breach), outputs)?;
             return Ok(());
         }
-        self.let_out(Packet::Want(breach), outputs)?;
+        let_out(&self.node, Packet::Want(breach), outputs)?;
         Ok(())
     }
 }
 
-/// The call by which a packet stops a round, or else this one.
-#[tactic(auto, unfolding(homeo_live::specs::Key::definitions))]
-fn stop_in(packet: &Packet, before: Option<Breach>) -> Option<Breach>
-    ensures { IfSome result (λ b. (plain_packet packet.now ≡ n.Stop b) ⊎ (before ≡ Some b)) }
+/// A packet was taken, by which the node has maybe chosen a call.
+fn taken_by(chosen: Option<Breach>) -> Delivered
+    ensures { IsTaken chosen result }
 {
-    match packet {
-        Packet::Stop(breach) => Some(*breach),
-        _ => before,
+    match chosen {
+        Some(breach) => Delivered::Chose(breach),
+        None => Delivered::Yes,
     }
 }
 
@@ -538,7 +467,7 @@ fn sent_by(mode: Mode) -> usize {
 
 /// Refuses a request.
 fn refuse(request: Request, why: Why, outputs: &mut List<Output>) -> Result<(), Memory>
-    ensures { OnOk result (Gives [] [] outputs.old.items outputs.new.items) }
+    ensures { OnOk result (outputs.new.items ≡ outputs.old.items ++ o.Refusal request.caller request.number why ∷ []) }
 {
     outputs.push(Output::Refusal(request.caller, request.number, why))?;
     Ok(())

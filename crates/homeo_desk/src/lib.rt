@@ -5,8 +5,10 @@
 mod answered;
 mod callers;
 mod desk;
+mod fits;
 mod output;
 mod places;
+mod sending;
 mod state;
 
 pub use desk::Desk;

@@ -1,6 +1,6 @@
 //! Where calls stand in the history.
 
-ghost use Rattle.std.specs.Prelude.{◌≡◌};
+ghost use Rattle.std.specs.Prelude.{◌≡◌, ◌==◌, cond};
 ghost use Rattle.homeo_desk.specs.Outputs.{plain_path};
 
 use crate::output::Path;
@@ -15,12 +15,17 @@ pub(crate) struct Places {
 
 impl Places {
     /// So many calls were made in this round.
-    pub(crate) fn new(round: u64, made: u64) -> Places {
+    pub(crate) fn new(round: u64, made: u64) -> Places
+        ensures round { result.round ≡ round }
+        ensures made { result.made ≡ made }
+    {
         Places { round, made }
     }
 
     /// How many calls the site has made alone in a round that isn't over.
-    pub(crate) fn made_in(self, round: u64) -> u64 {
+    pub(crate) fn made_in(self, round: u64) -> u64
+        ensures { result ≡ cond (self.round == round) self.made 0 }
+    {
         if self.round == round {
             return self.made;
         }

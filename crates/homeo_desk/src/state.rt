@@ -1,6 +1,7 @@
 //! A desk as plain data.
 
-ghost use Rattle.std.specs.Prelude.{◌≡◌, IsTrue, map};
+ghost use Rattle.std.specs.Prelude.{◌≡◌, IsTrue};
+ghost use Rattle.homeo_desk.specs.DeskView.{calls_of};
 
 use crate::output::{Answer, Request};
 use homeo_live::NodeState;
@@ -18,7 +19,8 @@ pub struct DeskState {
 
 /// Whether these requests are those of these calls, one for each, in order.
 pub(crate) fn are_of(requests: &[Request], calls: &[CallId]) -> bool
-    ensures { IsTrue result → map (λ r. r.call) requests.now ≡ calls.now }
+    ensures yes { IsTrue result → calls_of requests.now ≡ calls.now }
+    ensures no { calls_of requests.now ≡ calls.now → IsTrue result }
 {
     if requests.len() != calls.len() {
         return false;

@@ -1,5 +1,25 @@
-use Rattle.homeo_desk.proofs.Giving.{gives_nothing}
+use Rattle.std.proofs.Common.{◌≡◌, ◌∷◌, [], ◌++◌, map, sym, subst, ◌∙◌}
+use Rattle.std.proofs.lemmas.Result.{on_ok_weaker}
+use Rattle.homeo_history.specs.Answers.{called}
+use Rattle.homeo_history.specs.HistoryView.{plain_answer}
+use Rattle.homeo_desk.specs.declared.output.Request.{Request}
+use Rattle.homeo_desk.specs.inner.Keeping.{Tells}
+use Rattle.homeo_desk.proofs.Giving.{tells_before}
+use Rattle.homeo_desk.proofs.Lists.{one_left}
 use Rattle.homeo_desk.proofs.callers.Callers.answer.Goals as goal
 
-pub returns-in-None-clause-gives : goal.returns-in-None-clause-gives
-returns-in-None-clause-gives c = gives_nothing _ _ _
+pub answer_request-requires-clause-call : goal.answer_request-requires-clause-call
+answer_request-requires-clause-call c =
+    one_left (λ (r : Request). r.call) (called (plain_answer c.args.made)) c.in-Some.request c.args.self.now.queue.items c.pop_front.new.self.items c.in-Some.ensures.items c.requires
+
+pub returns-clause-tells : goal.returns-clause-tells
+returns-clause-tells c =
+    let rest = c.pop_front.new.self.items in
+    let one = c.in-Some.request ∷ [] in
+    let answers = plain_answer c.args.made ∷ [] in
+    let last = c.args.self.now.answered in
+    on_ok_weaker c.answer_request.result
+    (λ told. subst (λ q. Tells answers q c.answer_request.new.self.queue.items last c.answer_request.new.self.answered c.args.outputs.now.items c.answer_request.new.outputs.items) (sym c.in-Some.ensures.items)
+    (subst (λ q. Tells answers (one ++ rest) q last c.answer_request.new.self.answered c.args.outputs.now.items c.answer_request.new.outputs.items) (sym c.answer_request.ensures.queue)
+    (tells_before answers one rest last c.answer_request.new.self.answered c.args.outputs.now.items c.answer_request.new.outputs.items told)))
+    c.answer_request.ensures.tells

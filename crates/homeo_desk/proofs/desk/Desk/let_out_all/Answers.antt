@@ -6,10 +6,10 @@ use Rattle.homeo_live.specs.LiveView.{plain_packet}
 use Rattle.homeo_desk.specs.Outputs.{Gives}
 use Rattle.homeo_desk.proofs.Giving.{gives_nothing, gives_then}
 use Rattle.homeo_desk.proofs.Resending.{stop_more}
-use Rattle.homeo_desk.proofs.desk.Desk.let_out_all.Goals as goal
+use Rattle.homeo_desk.proofs.sending.let_out_all.Goals as goal
 
 pub loop-packet-init : goal.loop-packet-init
-loop-packet-init c = record { gives = gives_nothing _ _ _; chosen = tt }
+loop-packet-init c = record { gives = gives_nothing _ _; chosen = tt }
 
 pub loop-packet-preserved : goal.loop-packet-preserved
 loop-packet-preserved c =

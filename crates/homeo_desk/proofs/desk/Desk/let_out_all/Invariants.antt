@@ -2,7 +2,7 @@ use Rattle.std.specs.Prelude.{[], Contains, IfSome, map}
 use Rattle.homeo_nodes.specs.Nodes as n
 use Rattle.homeo_live.specs.LiveView.{plain_packet}
 use Rattle.homeo_desk.specs.Outputs.{Gives}
-use Rattle.homeo_desk.proofs.desk.Desk.let_out_all.Given as goal
+use Rattle.homeo_desk.proofs.sending.let_out_all.Given as goal
 
 abbrev pub invariant-loop-packet : goal.invariant-loop-packet
 invariant-loop-packet l = record {

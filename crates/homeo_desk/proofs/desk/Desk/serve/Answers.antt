@@ -4,7 +4,7 @@ use Rattle.homeo_desk.proofs.Moving.{stays, then_free}
 use Rattle.homeo_desk.proofs.desk.Desk.serve.Goals as goal
 
 pub loop-init : goal.loop-init
-loop-init c = record { work = refl; moves = stays [] [] _ _ _ _ refl refl (gives_nothing [] [] _) }
+loop-init c = record { work = refl; moves = stays _ _ _ _ _ refl (gives_nothing [] _) }
 
 pub loop-preserved : goal.loop-preserved
 loop-preserved c = record { work = search rules; moves = then_free [] [] _ _ _ _ _ _ c.loop.invariant.moves c.in_ok-serve_one.ensures.moves }

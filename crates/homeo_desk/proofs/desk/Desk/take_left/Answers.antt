@@ -13,14 +13,14 @@ use Rattle.homeo_desk.proofs.Resending.{states_more}
 use Rattle.homeo_desk.proofs.desk.Desk.take_left.Goals as goal
 
 pub returns-then-len-sites-clause-moves : goal.returns-then-len-sites-clause-moves
-returns-then-len-sites-clause-moves c = stays [] _ _ _ _ _ refl refl (gives_nothing [] [] _)
+returns-then-len-sites-clause-moves c = stays _ _ _ _ _ refl (gives_nothing [] _)
 
 pub returns-then-not-branch-clause-moves : goal.returns-then-not-branch-clause-moves
 unfolding definitions
 returns-then-not-branch-clause-moves c =
     let past = c.args.past in
     let stop = n.Stop past.breach ∷ [] in
-    of_wider [] [] stop (of_past (Some (plain_past past))) _ _ _ _ (λ k h. h) (in_left stop (of_states past.breach.round 0 (map plain_said past.states.items)) stop (in_itself stop)) c.in_ok-take.ensures.moves
+    of_wider [] stop (of_past (Some (plain_past past))) _ _ _ _ (in_left stop (of_states past.breach.round 0 (map plain_said past.states.items)) stop (in_itself stop)) c.in_ok-take.ensures.moves
 
 pub loop-said-init : goal.loop-said-init
 unfolding definitions
@@ -45,7 +45,7 @@ loop-said-preserved c =
       site = let more = length-append c.loop-said.yielded (c.in-Some.said ∷ []) in omega arith;
       moves = subst (λ ps. IsMove [] ps c.args.self.now c.take-in-loop-said.new.self c.args.outputs.now.items c.take-in-loop-said.new.outputs.items) (sym all)
           (then [] (given ++ packet ∷ []) (packet ∷ []) _ _ _ _ _ _
-          (of_wider [] [] given (given ++ packet ∷ []) _ _ _ _ (λ k h. h) (in_left given (packet ∷ []) given (in_itself given)) c.loop-said.invariant.moves)
+          (of_wider [] given (given ++ packet ∷ []) _ _ _ _ (in_left given (packet ∷ []) given (in_itself given)) c.loop-said.invariant.moves)
           (in_left (packet ∷ []) _ (given ++ packet ∷ []) (in_right (packet ∷ []) given (packet ∷ []) (in_itself (packet ∷ []))))
           c.in_ok-fit.ensures.moves);
     }

@@ -1,29 +1,22 @@
-use Rattle.std.proofs.Common.{rules, arith, ◌∷◌, [], ◌++◌}
-use Rattle.std.proofs.lemmas.List.Elements.{Contains-push}
-use Rattle.homeo_nodes.specs.Key.{definitions as node_definitions}
-use Rattle.homeo_nodes.specs.Nodes.{Asked, asked}
-use Rattle.homeo_nodes.specs.Small.{grown}
-use Rattle.homeo_nodes.specs.Told.{told}
-use Rattle.homeo_live.specs.Key.{definitions}
-use Rattle.homeo_desk.proofs.Giving.{in_nothing, gives_nothing, gives_then}
-use Rattle.homeo_desk.proofs.Moving.{by_input, input_then, of_wider}
+use Rattle.std.proofs.Common.{rules, ◌≡◌, ◌<◌, ◌∷◌, [], ◌++◌, length, ap, subst, sym, ◌∙◌}
+use Rattle.homeo_desk.specs.DeskView.{DeskValue}
+use Rattle.homeo_desk.specs.Moves.{IsMove}
+use Rattle.homeo_desk.proofs.Moving.{then_free}
+use Rattle.homeo_desk.proofs.Stepping.{asks_kept, asks_moved}
 use Rattle.homeo_desk.proofs.desk.Desk.take_on.Goals as goal
 
-pub returns-then-not-branch-clause-moves : goal.returns-then-not-branch-clause-moves
-unfolding definitions node_definitions
-returns-then-not-branch-clause-moves c =
-    let old = c.args.self.now in
-    let call = c.args.request.call in
-    let r = asked call (grown old.node) in
-    by_input (call ∷ []) [] old _ _ _ (Asked call) (Contains-push [] call) (search rules) (search rules)
-    (gives_then [] r.sends [] (told (grown old.node) r.step) _ _ _ c.in_ok-refuse.ensures (gives_nothing r.sends (told (grown old.node) r.step) _))
+pub invariant_of-self-2 : goal.invariant_of-self-2
+invariant_of-self-2 c =
+    let i = c.self.inside in
+    let room : length i.callers.queue.items < 64 = subst (λ (d : DeskValue). length d.queue < 64) (sym c.self.view_is) c.requires.room in
+    asks_kept i.node.work i.node.node c.ask.new.self.node i.callers.places i.callers.queue.items i.callers.answered c.args.request room c.in_ok-_queued.ensures.node c.self.invariant
+    c.ask.new.self.work c.add.new.self.places c.add.new.self.queue.items c.add.new.self.answered c.ask.ensures.work (c.add.ensures.queue ∙ ap (λ l. l ++ c.args.request ∷ []) c.reserve.ensures.queue) (c.add.ensures.answered ∙ c.reserve.ensures.answered)
 
 pub returns-clause-moves : goal.returns-clause-moves
-unfolding definitions node_definitions
 returns-clause-moves c =
-    let old = c.args.self.now in
-    let call = c.args.request.call in
-    let r = asked call (grown old.node) in
-    input_then (call ∷ []) [] [] old _ _ _ _ _ (Asked call) (Contains-push [] call) (search rules) (search rules)
-    (gives_nothing r.sends (told (grown old.node) r.step) _) (in_nothing ([] ++ r.sends))
-    (of_wider [] (call ∷ []) [] [] _ _ _ _ (λ k h. let lt = h.1 in absurd (omega arith)) (in_nothing []) c.in_ok-serve.ensures.moves)
+    let i = c.self.inside in
+    let room : length i.callers.queue.items < 64 = subst (λ (d : DeskValue). length d.queue < 64) (sym c.self.view_is) c.requires.room in
+    let asked = asks_moved i.node.work i.node.node c.ask.new.self.node i.callers.places i.callers.queue.items i.callers.answered c.args.request room c.in_ok-_queued.ensures.node c.self.invariant
+    c.ask.new.self.work c.add.new.self.places c.add.new.self.queue.items c.add.new.self.answered c.ask.ensures.work (c.add.ensures.queue ∙ ap (λ l. l ++ c.args.request ∷ []) c.reserve.ensures.queue) (c.add.ensures.answered ∙ c.reserve.ensures.answered) c.args.outputs.now.items in
+    subst (λ d. IsMove (c.args.request ∷ []) [] d c.serve.new.self c.args.outputs.now.items c.serve.new.outputs.items) c.self.view_is
+    (then_free (c.args.request ∷ []) [] _ _ _ _ _ _ asked c.in_ok-serve.ensures.moves)
