@@ -1,10 +1,3 @@
-<<<<<<< HEAD
-use Rattle.std.specs.Prelude.{◌≡◌}
-use Rattle.homeo_desk.proofs.callers.Callers.keep.Given as goal
-
-abbrev pub invariant-loop-answer : goal.invariant-loop-answer
-invariant-loop-answer l = l.self.queue.items ≡ l.initial.self.queue.items
-=======
 use Rattle.std.specs.Prelude.{◌≡◌, ◌++◌, map}
 use Rattle.std.specs.Vec.Iter.{into_iter_items}
 use Rattle.homeo_syntax.specs.SourceView.{plain_workload}
@@ -20,4 +13,3 @@ invariant-loop-answer l = record {
   answered : l.self.answered ≡ last_answers (map plain_reply l.yielded) l.initial.self.answered;
   last : AreLast (plain_workload l.node.work) l.node.node.number l.initial.self.answered → AreLast (plain_workload l.node.work) l.node.node.number l.self.answered;
 }
->>>>>>> ce9c9634 (homeo_desk: each answer of the node is given to the request that asked for it; what ask does in each case; the state is the desk)
