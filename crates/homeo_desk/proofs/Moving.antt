@@ -95,19 +95,21 @@ pub by_one : (requests : List Request) (ps : List n.Packet) (old new : DeskValue
     (m : IsMove requests ps old new x z) × (m.inputs ≡ input ∷ [])
 unfolding definitions
 by_one requests ps old new x y z input is node work number gives tells =
-    let r = reacts (plain_workload old.work) input old.node in
-    (record {
-      inputs = input ∷ [];
-      are_of = (is, tt);
-      node = node;
-      given = tells.given;
-      gives = gives_then r.sends [] [] tells.given x y z gives tells.gives;
-      told = subst (AreTold tells.given) (sym (append-nil (told (grown old.node) r.step))) tells.told;
-      queue = tells.queue;
-      answered = tells.answered;
-      work = work;
-      number = number;
-    }, refl)
+    let r = reacts (plain_workload old.work) input old.node in (
+      record {
+        inputs = input ∷ [];
+        are_of = (is, tt);
+        node = node;
+        given = tells.given;
+        gives = gives_then r.sends [] [] tells.given x y z gives tells.gives;
+        told = subst (AreTold tells.given) (sym (append-nil (told (grown old.node) r.step))) tells.told;
+        queue = tells.queue;
+        answered = tells.answered;
+        work = work;
+        number = number;
+      },
+      refl,
+    )
 
 -- what is given to the second are packets that were given to the first or that it may have sent
 pub then : (requests : List Request) (ps qs : List n.Packet) (a b c : DeskValue) (x y z : List Output) (m : IsMove requests ps a b x y) →

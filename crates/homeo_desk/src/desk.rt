@@ -72,11 +72,11 @@ impl Desk {
     pub fn begin(alloc: Global, c: Arc<Compiled>, site: u32) -> Result<Desk, Memory>
         requires { site < sites_of (plain_workload c.value) }
         ensures { IfOk result (λ d. d ≡ record {
-            work = c.value;
-            node = small (first_node (plain_workload c.value) site);
-            made = 0;
-            queue = [];
-            answered = replicate (length (plain_workload c.value).clients) None;
+          work = c.value;
+          node = small (first_node (plain_workload c.value) site);
+          made = 0;
+          queue = [];
+          answered = replicate (length (plain_workload c.value).clients) None;
         }) }
     {
         let clients = client_count(c.workload());

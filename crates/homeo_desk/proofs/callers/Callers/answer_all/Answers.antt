@@ -43,8 +43,10 @@ loop-made-preserved c =
           (λ t u. subst (λ ts. Tells ts queue c.answer-one.new.self.queue.items c.args.self.now.answered c.answer-one.new.self.answered c.args.outputs.now.items c.answer-one.new.outputs.items) (sym more)
           (tells_then (map plain_answer ys) (plain_answer one ∷ []) queue c.loop-made.self.queue.items c.answer-one.new.self.queue.items c.args.self.now.answered c.loop-made.self.answered c.answer-one.new.self.answered
           c.args.outputs.now.items c.loop-made.outputs.items c.answer-one.new.outputs.items t u));
-      last = record { keeps = λ w site are all.
-          let both : All (λ b. IsCallAt w site (called b)) (map plain_answer ys ++ plain_answer one ∷ []) = subst (All (λ b. IsCallAt w site (called b))) more all in
-          c.answer-one.ensures.last.keeps w site (was.last.keeps w site are (all_before (λ b. IsCallAt w site (called b)) (map plain_answer ys) (plain_answer one ∷ []) both))
-          (all_one (λ b. IsCallAt w site (called b)) (plain_answer one) (all_here (λ b. IsCallAt w site (called b)) (map plain_answer ys) (plain_answer one) [] both)) };
+      last = record {
+        keeps = λ w site are all.
+            let both : All (λ b. IsCallAt w site (called b)) (map plain_answer ys ++ plain_answer one ∷ []) = subst (All (λ b. IsCallAt w site (called b))) more all in
+            c.answer-one.ensures.last.keeps w site (was.last.keeps w site are (all_before (λ b. IsCallAt w site (called b)) (map plain_answer ys) (plain_answer one ∷ []) both))
+            (all_one (λ b. IsCallAt w site (called b)) (plain_answer one) (all_here (λ b. IsCallAt w site (called b)) (map plain_answer ys) (plain_answer one) [] both));
+      };
     }

@@ -29,15 +29,19 @@ returns-clause-tells c =
     }
 
 pub returns-in_err-push-clause-last : goal.returns-in_err-push-clause-last
-returns-in_err-push-clause-last c = record { keeps = λ w site are all.
-    let at = all_here (λ b. IsCallAt w site (called b)) [] (plain_answer c.args.made) [] all in
-    subst (AreLast w site) (sym c.keep.ensures)
-    (last_set w site c.args.self.now.answered (plain_reply c.in_ok-copy.field-0) are
-    (subst (IsCallAt w site) (sym (ap (λ (r : Reply). r.call) c.in_ok-copy.ensures ∙ c.requires.call)) at)) }
+returns-in_err-push-clause-last c = record {
+  keeps = λ w site are all.
+      let at = all_here (λ b. IsCallAt w site (called b)) [] (plain_answer c.args.made) [] all in
+      subst (AreLast w site) (sym c.keep.ensures)
+      (last_set w site c.args.self.now.answered (plain_reply c.in_ok-copy.field-0) are
+      (subst (IsCallAt w site) (sym (ap (λ (r : Reply). r.call) c.in_ok-copy.ensures ∙ c.requires.call)) at));
+}
 
 pub returns-clause-last : goal.returns-clause-last
-returns-clause-last c = record { keeps = λ w site are all.
-    let at = all_here (λ b. IsCallAt w site (called b)) [] (plain_answer c.args.made) [] all in
-    subst (AreLast w site) (sym c.keep.ensures)
-    (last_set w site c.args.self.now.answered (plain_reply c.in_ok-copy.field-0) are
-    (subst (IsCallAt w site) (sym (ap (λ (r : Reply). r.call) c.in_ok-copy.ensures ∙ c.requires.call)) at)) }
+returns-clause-last c = record {
+  keeps = λ w site are all.
+      let at = all_here (λ b. IsCallAt w site (called b)) [] (plain_answer c.args.made) [] all in
+      subst (AreLast w site) (sym c.keep.ensures)
+      (last_set w site c.args.self.now.answered (plain_reply c.in_ok-copy.field-0) are
+      (subst (IsCallAt w site) (sym (ap (λ (r : Reply). r.call) c.in_ok-copy.ensures ∙ c.requires.call)) at));
+}
