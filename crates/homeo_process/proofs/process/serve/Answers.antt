@@ -19,6 +19,11 @@ loop-piece-init g c = record {
   faults = omega arith;
 }
 
+pub returns-in-Err-clause-read_fault : goal.returns-in-Err-clause-read_fault
+returns-in-Err-clause-read_fault g c = λ is.
+    let i = c.loop-piece.invariant in
+    (i.bytes, Consumes-kept _ _ _ _ i.gave c.in-Err.ensures.bytes, after_so_far i.bytes c.loop-piece.feed i.after)
+
 pub returns-then-count-eq0-clause-done : goal.returns-then-count-eq0-clause-done
 returns-then-count-eq0-clause-done g c = λ is.
     let i = c.loop-piece.invariant in (
