@@ -31,7 +31,7 @@ returns g c =
     (λ h. sent_of (status_fields w x (length c.args.desk.now.queue)) o l5
     (then_field _ _ o l1 l5 (subst (λ n. SendsField (codes "round", count_data n) o l1) (c.round.ensures ∙ ap (λ (y : Small). y.round) node) c.in_ok-write_member.ensures)
     (then_field _ _ l1 l2 l5 (subst (λ t. SendsField (codes "mode", string t) l1 l2) (c.mode_name.ensures ∙ ap mode_name (c.mode.ensures ∙ ap (λ (y : Small). y.mode) node)) c.in_ok-write_member-2.ensures)
-    (then_field _ _ l2 l3 l5 (subst (λ n. SendsField (codes "waiting", count_data n) l2 l3) c.waiting.ensures c.in_ok-write_member-3.ensures)
+    (then_field _ _ l2 l3 l5 (subst (λ n. SendsField (codes "waiting", count_data n) l2 l3) c.waiting.ensures.count c.in_ok-write_member-3.ensures)
     (then_field _ _ l3 l4 l5 (lk, c.in_ok-key.ensures, subst (λ ns. SendsValue (object_of (named_values names 0 ns)) lk l4) base c.in_ok-write_named_values.ensures)
     (field_sent _ l4 l5 (subst (λ ns. SendsField (codes "deltas", wholes_data ns) l4 l5) (c.deltas.ensures ∙ ap (λ (y : Small). y.deltas) node) h)))))))
     c.write_member-4.ensures
