@@ -6,4 +6,5 @@ pub mod Moving
 pub mod Reacting
 pub mod Requests
 pub mod Resending
+pub mod Running
 pub mod Stepping

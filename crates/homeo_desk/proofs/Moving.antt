@@ -6,22 +6,21 @@ use Rattle.homeo_syntax.specs.Source as s
 use Rattle.homeo_syntax.specs.SourceView.{plain_workload}
 use Rattle.homeo_syntax.specs.declared.workload.Workload.{Workload}
 use Rattle.homeo_meaning.specs.declared.call.CallId.{CallId}
-use Rattle.homeo_history.specs.Answers as h
 use Rattle.homeo_nodes.specs.Key.{definitions}
 use Rattle.homeo_nodes.specs.Nodes as n
-use Rattle.homeo_nodes.specs.Nodes.{Input, Asked, Served, Came, Withdrew, Ticked, resent}
+use Rattle.homeo_nodes.specs.Nodes.{Input, Asked, Served, Came, Withdrew, Ticked}
 use Rattle.homeo_nodes.specs.Small.{Small, small, grown, small_after}
 use Rattle.homeo_nodes.specs.Told.{told}
 use Rattle.homeo_live.specs.declared.packet.Packet.{Packet}
 use Rattle.homeo_live.specs.declared.packet.Step.{Step}
-use Rattle.homeo_live.specs.LiveView.{plain_packet, plain_step, IsReaction}
+use Rattle.homeo_live.specs.LiveView.{plain_packet, IsReaction}
 use Rattle.homeo_desk.specs.declared.output.Output.{Output}
 use Rattle.homeo_desk.specs.declared.output.Request.{Request}
 use Rattle.homeo_desk.specs.DeskView.{DeskValue, calls_of, last_answers}
 use Rattle.homeo_desk.specs.Moves.{reacts, sent_after, told_after, IsOf, AreOf, IsMove}
 use Rattle.homeo_desk.specs.Outputs.{AreIn, Gives, Given, AreTold, none, request_of, replies_of}
 use Rattle.homeo_desk.specs.inner.Keeping.{Tells}
-use Rattle.homeo_desk.proofs.Giving.{in_itself, in_nothing, in_both, told_both, last_more, gives_nothing, gives_then}
+use Rattle.homeo_desk.proofs.Giving.{in_itself, in_nothing, in_both, told_both, last_more, gives_then}
 
 -- ---- inputs, one list after another
 module _ (w : s.Workload) where

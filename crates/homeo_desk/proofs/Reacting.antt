@@ -2,8 +2,8 @@
 use Rattle.homeo_history.specs.Key.{definitions as history_definitions}
 use Rattle.homeo_site.specs.Key.{definitions as site_definitions}
 use Rattle.homeo_nodes.specs.Key.{definitions}
-use Rattle.std.proofs.Common.{◌≡◌, ℕ, suc, ◌<◌, ◌≤◌, min, List, [], ◌∷◌, ◌++◌, map, length, take, drop, replicate, Bool, true, false, cond, eqb, Option, Some, None, refl, sym, ap, subst, ◌∙◌, append-nil, arith, slice_set, slice_index_or, ℤ}
-use Rattle.std.specs.Prelude.{slice_get, nat_lt, ◌==◌, ◌&&◌, is_some, not}
+use Rattle.std.proofs.Common.{◌≡◌, ℕ, ◌<◌, min, List, [], ◌∷◌, ◌++◌, map, length, take, drop, Bool, true, false, cond, eqb, Option, Some, None, refl, sym, ap, subst, ◌∙◌, arith, slice_set, slice_index_or, ℤ}
+use Rattle.std.specs.Prelude.{nat_lt, ◌&&◌, is_some, not}
 use Rattle.std.proofs.Math.Seq.{take-length}
 use Rattle.std.proofs.lemmas.List.{length-take, take-append-le, take-append-drop}
 use Rattle.homeo_syntax.specs.Listed.{Listed}
@@ -18,7 +18,7 @@ use Rattle.homeo_nodes.specs.declared.breach.Breach.{Breach}
 use Rattle.homeo_nodes.specs.declared.breach.Mode.{Mode}
 use Rattle.homeo_nodes.specs.declared.breach.Mode.TheVariants.{Running, Waiting, Stopped}
 use Rattle.homeo_nodes.specs.Nodes as n
-use Rattle.homeo_nodes.specs.Nodes.{Said, Node, Reaction, Packet, rest_of, calls_at, own_calls, answers_then, all_of, settled_by, settled, told_by, closing_step, stopped, keeping, said_by, has_state, is_stopped, is_arbiter, taken, received, tried, served_by, served, asked, most_waiting}
+use Rattle.homeo_nodes.specs.Nodes.{Said, Node, Reaction, Packet, rest_of, calls_at, own_calls, answers_then, all_of, settled_by, settled, told_by, closing_step, stopped, keeping, said_by, has_state, is_stopped, is_arbiter, taken, received, tried, served_by, served, asked}
 use Rattle.homeo_nodes.specs.Small.{Small, small, grown}
 use Rattle.homeo_nodes.specs.Told.{told}
 use Rattle.homeo_nodes.proofs.Brief.{brief_closes}

@@ -7,7 +7,6 @@ use Rattle.std.specs.Prelude.{None, IfSome, ◌⊎◌}
 use Rattle.homeo_live.specs.declared.packet.Packet.{Packet}
 use Rattle.homeo_live.specs.LiveView.{plain_packet}
 use Rattle.std.specs.Prelude.{Option, Some, Contains}
-use Rattle.homeo_meaning.specs.declared.call.CallId.{CallId}
 use Rattle.homeo_nodes.specs.declared.breach.Breach.{Breach}
 use Rattle.homeo_nodes.specs.declared.breach.Mode.{Mode}
 use Rattle.homeo_nodes.specs.Key.{definitions}

@@ -1,13 +1,12 @@
 -- A desk whose node takes an input in memory.
 use Rattle.homeo_nodes.specs.Key.{definitions}
-use Rattle.std.proofs.Common.{◌≡◌, ℕ, ◌<◌, List, [], ◌∷◌, ◌++◌, map, length, take, drop, Option, refl, sym, ap, subst, ◌∙◌, append-nil}
+use Rattle.std.proofs.Common.{◌≡◌, ℕ, ◌<◌, List, [], ◌∷◌, ◌++◌, map, length, take, drop, Option, sym, ap, subst, ◌∙◌, append-nil}
 use Rattle.std.specs.Prelude.{All}
 use Rattle.std.proofs.lemmas.List.{length-map, map-append}
 use Rattle.std.proofs.lemmas.List.Elements.{Contains-push}
 use Rattle.homeo_syntax.specs.Source as s
 use Rattle.homeo_syntax.specs.SourceView.{plain_workload}
 use Rattle.homeo_syntax.specs.declared.workload.Workload.{Workload}
-use Rattle.homeo_meaning.specs.declared.call.CallId.{CallId}
 use Rattle.homeo_history.specs.Answers as h
 use Rattle.homeo_history.specs.Legal.{IsCallAt}
 use Rattle.homeo_nodes.specs.Nodes as n
@@ -18,7 +17,6 @@ use Rattle.homeo_live.specs.declared.packet.Packet.{Packet}
 use Rattle.homeo_live.specs.declared.packet.Step.{Step}
 use Rattle.homeo_live.specs.LiveView.{plain_packet, IsReaction}
 use Rattle.homeo_desk.specs.declared.desk.Delivered.{Delivered}
-use Rattle.homeo_desk.specs.declared.desk.Delivered.TheVariants.{No, Yes, Chose}
 use Rattle.homeo_desk.specs.declared.output.Output.{Output}
 use Rattle.homeo_desk.specs.declared.output.Request.{Request}
 use Rattle.homeo_desk.specs.declared.places.Places.{Places}

@@ -3,3 +3,4 @@ pub mod inner
 pub mod Moves
 pub mod Outputs
 pub mod Requests
+pub mod Runs

@@ -6,6 +6,7 @@ mod answered;
 mod callers;
 mod desk;
 mod fits;
+pub mod laws;
 mod output;
 mod places;
 mod sending;

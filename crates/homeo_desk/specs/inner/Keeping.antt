@@ -1,5 +1,5 @@
 -- A desk as it lies in memory, and what its parts do.
-use Rattle.std.specs.Prelude.{◌≡◌, ℕ, ◌==◌, cond, All, List, [], ◌∷◌, ◌++◌, map, length, Option, Some, slice_get}
+use Rattle.std.specs.Prelude.{◌≡◌, ℕ, ◌==◌, cond, All, List, [], ◌++◌, map, length, Option, Some, slice_get}
 use Rattle.homeo_syntax.specs.Source as s
 use Rattle.homeo_syntax.specs.SourceView.{plain_workload}
 use Rattle.homeo_syntax.specs.declared.workload.Workload.{Workload}

@@ -1,4 +1,4 @@
-use Rattle.std.proofs.Common.{◌≡◌, ◌∙◌, ap, map, option_map, Some, slice_set}
+use Rattle.std.proofs.Common.{◌∙◌, ap, option_map, Some, slice_set}
 use Rattle.std.proofs.lemmas.List.{map-set}
 use Rattle.homeo_desk.specs.DeskView.{plain_reply}
 use Rattle.homeo_desk.proofs.answered.Answered.keep.Goals.{in-Some-1, in-None-1}

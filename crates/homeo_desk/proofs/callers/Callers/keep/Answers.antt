@@ -1,4 +1,4 @@
-use Rattle.std.proofs.Common.{◌≡◌, ◌∷◌, [], ◌++◌, map, Some, ap, subst, sym, ◌∙◌, append_assoc, slice_set}
+use Rattle.std.proofs.Common.{◌∷◌, [], ◌++◌, map, Some, ap, subst, sym, ◌∙◌, append_assoc, slice_set}
 use Rattle.std.specs.Vec.Iter.{into_iter_items}
 use Rattle.std.proofs.lemmas.List.{map-append}
 use Rattle.homeo_syntax.specs.SourceView.{plain_workload}

@@ -1,4 +1,4 @@
-use Rattle.std.proofs.Common.{◌≡◌, ◌<◌, [], None, length, refl, sym, ap, subst, ◌∙◌, slice_index_or}
+use Rattle.std.proofs.Common.{◌≡◌, [], None, refl, sym, ap, subst, ◌∙◌, slice_index_or}
 use Rattle.homeo_desk.specs.declared.output.Output.TheVariants as o
 use Rattle.homeo_desk.specs.declared.output.Why.TheVariants as why
 use Rattle.homeo_desk.specs.DeskView.{DeskValue, plain_reply}

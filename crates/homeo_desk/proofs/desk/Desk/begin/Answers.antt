@@ -1,11 +1,11 @@
-use Rattle.std.proofs.Common.{◌≡◌, [], replicate, None, length, ap, sym, subst, ◌∙◌}
+use Rattle.std.proofs.Common.{◌≡◌, replicate, None, length, ap, sym, subst, ◌∙◌}
 use Rattle.homeo_syntax.specs.SourceView.{plain_workload}
 use Rattle.homeo_syntax.specs.declared.workload.Workload.{Workload}
 use Rattle.homeo_site.specs.Key.{definitions as site_definitions}
 use Rattle.homeo_nodes.specs.Key.{definitions}
 use Rattle.homeo_nodes.specs.Nodes.{first_node}
 use Rattle.homeo_nodes.specs.Small.{small}
-use Rattle.homeo_desk.specs.DeskView.{calls_of, no_answers}
+use Rattle.homeo_desk.specs.DeskView.{calls_of}
 use Rattle.homeo_desk.specs.inner.Keeping.{AreLast}
 use Rattle.homeo_desk.proofs.Keeping.{begun_kept}
 use Rattle.homeo_desk.proofs.desk.Desk.begin.Goals as goal

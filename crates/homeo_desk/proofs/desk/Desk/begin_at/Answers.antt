@@ -3,7 +3,7 @@ use Rattle.homeo_syntax.specs.SourceView.{plain_workload}
 use Rattle.homeo_syntax.specs.declared.workload.Workload.{Workload}
 use Rattle.homeo_live.specs.LiveView.{LiveValue, plain_node}
 use Rattle.homeo_live.proofs.Begun.{if_some}
-use Rattle.homeo_desk.specs.DeskView.{calls_of, no_answers}
+use Rattle.homeo_desk.specs.DeskView.{calls_of}
 use Rattle.homeo_desk.specs.inner.Keeping.{AreLast}
 use Rattle.homeo_desk.proofs.Keeping.{begun_kept}
 use Rattle.homeo_desk.proofs.desk.Desk.begin_at.Goals as goal

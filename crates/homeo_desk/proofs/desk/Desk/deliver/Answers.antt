@@ -1,20 +1,16 @@
-use Rattle.std.proofs.Common.{rules, ◌≡◌, ◌<◌, ◌∷◌, [], ◌++◌, map, refl, sym, ap, subst, ◌∙◌}
-use Rattle.std.specs.Prelude.{Contains, IfSome, Some, All}
+use Rattle.std.proofs.Common.{rules, ◌≡◌, ◌<◌, [], map, refl, sym, ap, subst, ◌∙◌}
+use Rattle.std.specs.Prelude.{Contains, IfSome}
 use Rattle.std.proofs.lemmas.Result.{IfOk-at_ok}
 use Rattle.std.proofs.lemmas.List.Elements.{Contains-push}
 use Rattle.homeo_syntax.specs.SourceView.{plain_workload}
-use Rattle.homeo_history.specs.Answers as h
-use Rattle.homeo_history.specs.Legal.{IsCallAt}
 use Rattle.homeo_plan.specs.Planned.{sites_of}
 use Rattle.homeo_nodes.specs.Key.{definitions as node_definitions}
 use Rattle.homeo_nodes.specs.Nodes as n
 use Rattle.homeo_nodes.specs.Nodes.{Came, received}
 use Rattle.homeo_nodes.specs.Small.{grown}
 use Rattle.homeo_live.specs.LiveView.{LiveValue, plain_packet, plain_step, IsReaction}
-use Rattle.homeo_desk.specs.DeskView.{DeskValue, KeepsFirst}
-use Rattle.homeo_desk.specs.Moves.{reacts}
 use Rattle.homeo_desk.specs.Outputs.{Gives}
-use Rattle.homeo_desk.specs.inner.Delivering.{Delivers, IsChosen}
+use Rattle.homeo_desk.specs.inner.Delivering.{Delivers}
 use Rattle.homeo_desk.specs.inner.Keeping.{FitsQueue, closed_by, value_of}
 use Rattle.homeo_desk.proofs.Giving.{gives_nothing}
 use Rattle.homeo_desk.proofs.Keeping.{none_of}

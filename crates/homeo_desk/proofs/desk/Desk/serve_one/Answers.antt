@@ -11,8 +11,7 @@ use Rattle.homeo_nodes.specs.Small.{grown}
 use Rattle.homeo_nodes.specs.Told.{told}
 use Rattle.homeo_live.specs.declared.packet.Step.TheVariants as step
 use Rattle.homeo_live.specs.Key.{definitions}
-use Rattle.homeo_live.specs.LiveView.{plain_packet, plain_step, IsReaction}
-use Rattle.homeo_desk.specs.DeskView.{DeskValue}
+use Rattle.homeo_live.specs.LiveView.{plain_packet, IsReaction}
 use Rattle.homeo_desk.specs.Moves.{IsMove}
 use Rattle.homeo_desk.specs.inner.Keeping.{value_of}
 use Rattle.homeo_desk.proofs.Giving.{gives_nothing, tells_nothing}

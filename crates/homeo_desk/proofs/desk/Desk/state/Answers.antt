@@ -1,9 +1,8 @@
-use Rattle.std.proofs.Common.{◌≡◌, ap, subst, sym, map, cond, ◌∙◌}
+use Rattle.std.proofs.Common.{◌≡◌, ap, subst, sym, cond, ◌∙◌}
 use Rattle.std.specs.Prelude.{All, ◌==◌}
 use Rattle.homeo_syntax.specs.SourceView.{plain_workload}
 use Rattle.homeo_history.specs.Legal.{IsCallAt}
 use Rattle.homeo_nodes.specs.Small.{Small}
-use Rattle.homeo_live.specs.LiveView.{plain_node}
 use Rattle.homeo_desk.specs.declared.state.DeskState.{DeskState}
 use Rattle.homeo_desk.specs.DeskView.{DeskValue, Reply, CanBegin, KeepsFirst, calls_of, desk_of, plain_reply}
 use Rattle.homeo_desk.proofs.Keeping.{state_is, all_somes, all_unmapped}

@@ -1,8 +1,7 @@
-use Rattle.std.proofs.Common.{rules, ◌∷◌, [], ◌++◌, subst}
+use Rattle.std.proofs.Common.{◌∷◌, [], subst}
 use Rattle.homeo_syntax.specs.SourceView.{plain_workload}
 use Rattle.homeo_nodes.specs.Nodes as n
 use Rattle.homeo_live.specs.LiveView.{plain_packet}
-use Rattle.homeo_desk.specs.declared.desk.Delivered.TheVariants.{Chose}
 use Rattle.homeo_desk.specs.Moves.{sent_after}
 use Rattle.homeo_desk.specs.inner.Delivering.{IsChosen}
 use Rattle.homeo_desk.proofs.Giving.{in_one, in_right}

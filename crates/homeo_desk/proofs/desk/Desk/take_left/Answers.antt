@@ -1,7 +1,7 @@
 use Rattle.std.proofs.Common.{rules, arith, ◌≡◌, ◌+◌, List, ◌∷◌, [], ◌++◌, length, map, refl, ap, subst, sym, ◌∙◌}
 use Rattle.std.specs.Prelude.{Some}
 use Rattle.homeo_nodes.specs.Nodes as n
-use Rattle.homeo_nodes.specs.Nodes.{Came, Served, Asked, received, served, asked, of_past, of_states}
+use Rattle.homeo_nodes.specs.Nodes.{of_past, of_states}
 use Rattle.homeo_live.specs.Key.{definitions}
 use Rattle.homeo_live.specs.LiveView.{plain_past}
 use Rattle.homeo_carry.specs.CarryView.{plain_said}

@@ -1,4 +1,4 @@
-use Rattle.std.proofs.Common.{rules, ◌≡◌, ◌<◌, ◌∷◌, [], ◌++◌, length, ap, subst, sym, ◌∙◌}
+use Rattle.std.proofs.Common.{◌<◌, ◌∷◌, [], ◌++◌, length, ap, subst, sym, ◌∙◌}
 use Rattle.homeo_desk.specs.DeskView.{DeskValue}
 use Rattle.homeo_desk.specs.Moves.{IsMove}
 use Rattle.homeo_desk.proofs.Moving.{then_free}
