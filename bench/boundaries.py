@@ -359,7 +359,7 @@ def certified():
 
 # ---- streams
 LINES = (begin(1) + "object x in 0..1 = 0\n").encode()
-HEAD, EMPTY = LINES + END.encode(), b"round 0\nsite 0\ndatabase\nx = 0\nrounds 1 calls 0\n"
+STREAM_HEAD, EMPTY_REPORT = LINES + END.encode(), b"round 0\nsite 0\ndatabase\nx = 0\nrounds 1 calls 0\n"
 LONG_FRAME, LONG_STREAM = f"refused E2 at {MOST_BYTES}\n", f"refused E16 at {MOST_STREAM}\n"
 
 
@@ -371,14 +371,14 @@ def batch_of(size):
 
 def streams():
     most, line = MOST_BYTES - len(LINES), LONG_FRAME.encode()
-    yield Stream("a batch's text at the limit", HEAD + batch_of(most) + batch_of(20), "", 2 * EMPTY)
-    yield Stream("a batch's text past the limit", HEAD + batch_of(most + 1) + batch_of(20), "", line + EMPTY)
-    yield Stream("a frame at the limit", HEAD + batch_of(MOST_BYTES) + batch_of(20), "", line + EMPTY)
-    yield Stream("a frame past the limit", HEAD + batch_of(20) + batch_of(MOST_BYTES + 1), LONG_FRAME, EMPTY)
-    yield Stream("a head at the limit", b" " * (MOST_BYTES - len(HEAD)) + HEAD + b"schedule\nend\n", "", line)
-    yield Stream("a head past the limit", b" " * (MOST_BYTES - len(HEAD) + 1) + HEAD, LONG_FRAME, b"")
-    full = HEAD + batch_of(MOST_BYTES) * (MOST_STREAM // MOST_BYTES - 1)
+    yield Stream("a batch's text at the limit", STREAM_HEAD + batch_of(most) + batch_of(20), "", 2 * EMPTY_REPORT)
+    yield Stream("a batch's text past the limit", STREAM_HEAD + batch_of(most + 1) + batch_of(20), "", line + EMPTY_REPORT)
+    yield Stream("a frame at the limit", STREAM_HEAD + batch_of(MOST_BYTES) + batch_of(20), "", line + EMPTY_REPORT)
+    yield Stream("a frame past the limit", STREAM_HEAD + batch_of(20) + batch_of(MOST_BYTES + 1), LONG_FRAME, EMPTY_REPORT)
+    yield Stream("a head at the limit", b" " * (MOST_BYTES - len(STREAM_HEAD)) + STREAM_HEAD + b"schedule\nend\n", "", line)
+    yield Stream("a head past the limit", b" " * (MOST_BYTES - len(STREAM_HEAD) + 1) + STREAM_HEAD, LONG_FRAME, b"")
+    full = STREAM_HEAD + batch_of(MOST_BYTES) * (MOST_STREAM // MOST_BYTES - 1)
     full += batch_of(MOST_STREAM - len(full) - 20) + batch_of(20)
-    answers = line * (MOST_STREAM // MOST_BYTES - 1) + 2 * EMPTY
+    answers = line * (MOST_STREAM // MOST_BYTES - 1) + 2 * EMPTY_REPORT
     yield Stream("a stream at the limit", full, "", answers)
     yield Stream("a stream past the limit", full + b"\n", LONG_STREAM, answers)
