@@ -1,10 +1,9 @@
 #!/usr/bin/env python3
 """bench/wrong_bodies.py
 
-Prints the names of the wrong bodies of each crate, those that the gate tries (crates/*/must-fail/) and behind them the others
-(crates/*/wrong-bodies/, which bench/wrong-bodies tries with the first), and writes the list into docs/TESTS.md between the marker lines
-of `wrong-bodies`. It says which don't fit their files, and where a crate has more in must-fail/ than its share. The gate refuses both, and
-another list.
+Prints how many wrong bodies each crate has, those that the gate tries (crates/*/must-fail/) and the others (crates/*/wrong-bodies/, which
+bench/wrong-bodies tries with the first), and writes the table into docs/TESTS.md between the marker lines of `wrong-bodies`. It says which
+don't fit their files, and where a crate has more in must-fail/ than its share. The gate refuses both, and another table.
 """
 import pathlib
 import sys
@@ -61,17 +60,13 @@ def wrong_bodies(crate):
 
 
 def listed():
-    """A crate a line, in the order of crates.txt, and the names of its edits as words."""
-    return [f"- {crate}: {said_of(crate)}" for crate in crates.named() if wrong_bodies(crate)]
-
-
-def said_of(crate):
-    gated, others = ("; ".join(it.stem.replace("_", " ") for it in edits_in(crate, part)) for part in (GATED, OTHERS))
-    return " ".join([f"{gated}."] * bool(gated) + [f"Outside the gate: {others}."] * bool(others))
+    """A table with a crate a line, in the order of crates.txt, and all together."""
+    rows = [[crate, *(len(edits_in(crate, part)) for part in (GATED, OTHERS))] for crate in crates.named() if wrong_bodies(crate)]
+    return marked.table(["crate", "tried by the gate", "outside it"], [*rows, ["all", *(sum(row[place] for row in rows) for place in (1, 2))]])
 
 
 def check(verdict):
-    """The list in docs/TESTS.md is that of the folders, the gate tries no more of a crate than its share, and each edit can be made."""
+    """The table in docs/TESTS.md is that of the folders, the gate tries no more of a crate than its share, and each edit can be made."""
     part = DOCUMENT.read_text().partition(marked.begin_of("wrong-bodies"))[2].partition(marked.end_of("wrong-bodies"))[0]
     written, wanted = part.strip().splitlines(), listed()
     wrong = [line for line in written if line not in wanted] + [line for line in wanted if line not in written]
