@@ -24,20 +24,24 @@ def laws(crate):
             yield name, " ".join(line.removeprefix("/// ") for line in lines.splitlines()), file.relative_to(crates.ROOT)
 
 
-def table():
-    rows = [[f"`{crate}`", f"[`{name}`](../{file})", said] for crate in crates.named() for name, said, file in laws(crate)]
-    return ["| crate | law | what it says |", "|---|---|---|", *(f"| {' | '.join(row)} |" for row in rows)]
+def listed():
+    """Each crate that has laws, and behind it a line for each of them."""
+    said = []
+    for crate in crates.named():
+        lines = [f"- [`{name}`](../{file}): {sentence}" for name, sentence, file in laws(crate)]
+        said += [f"`{crate}`", "", *lines, ""] if lines else []
+    return said[:-1]
 
 
 def check(verdict):
     """docs/PROOFS.md has the laws as they stand in the sources."""
     part = DOCUMENT.read_text().partition(marked.begin_of("laws"))[2].partition(marked.end_of("laws"))[0]
-    verdict("PROOFS.md: laws", None if part.strip().splitlines() == table() else "not those of the sources: run bench/laws.py")
+    verdict("PROOFS.md: laws", None if part.strip().splitlines() == listed() else "not those of the sources: run bench/laws.py")
 
 
 def main():
-    print("\n".join(table()))
-    sys.exit(marked.put(DOCUMENT, "laws", table()))
+    print("\n".join(listed()))
+    sys.exit(marked.put(DOCUMENT, "laws", listed()))
 
 
 if __name__ == "__main__":
