@@ -1,4 +1,4 @@
-"""The texts of .ci/rows: for each row of a document's tables, a text that shows it, and what it gives."""
+"""The texts of .ci/row_texts: for each row of a document's tables, a text that shows it, and what it gives."""
 import collections
 import re
 

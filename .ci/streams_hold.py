@@ -42,7 +42,7 @@ def fault_of(run, said, answers):
 
 
 def check(verdict):
-    streams = sorted((ROOT / ".ci" / "runs").glob("*.stream"))
+    streams = sorted((ROOT / ".ci" / "stored").glob("*.stream"))
     verdict("stored streams", None if streams else "there are none")
     for file in streams:
         stream, answers = file.read_bytes(), file.with_suffix(".answers").read_bytes()

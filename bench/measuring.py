@@ -1,4 +1,4 @@
-"""Runs a command in a process of its own, and measures it: what bench/measure and bench/hostile share.
+"""Runs a command in a process of its own, and measures it: what bench/measure and bench/hostile/at-limits share.
 
 `measured` gives a `Measured`: the status (negative where a signal ended it, None where it took too long), the seconds from start to
 end, the seconds of processor time of all its threads, the peak of its memory in megabytes (where GNU time isn't there, at least the 10

@@ -23,8 +23,8 @@ class Reason:
 
 
 def library():
-    """bench/judging, None where these sources stand without it."""
-    sys.path.append(str(ROOT / "bench"))
+    """tools/judging, None where these sources stand without it."""
+    sys.path.append(str(ROOT / "tools"))
     try:
         from judging import ahead, rules, summary, workload
     except ImportError:
@@ -33,7 +33,7 @@ def library():
 
 
 def reasons(text, closings, database):
-    """The reasons of closings, which are counted by calls, those of most closings first; none without bench/judging."""
+    """The reasons of closings, which are counted by calls, those of most closings first; none without tools/judging."""
     if not closings or not (found := library()):
         return []
     ahead, rules, summary, workload = found

@@ -96,7 +96,7 @@ class Noted(dict):
 
 def objects_of(text, calls, database):
     """The objects, or the slots of relations, that each call changes on a database, and where it changes none those that it asks for."""
-    sys.path.append(str(ROOT / "bench"))
+    sys.path.append(str(ROOT / "tools"))
     try:
         from judging import workload
     except ImportError:

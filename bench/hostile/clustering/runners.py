@@ -12,7 +12,7 @@ import time
 from clustering import texts
 from judging import answers, legality, report, treaties, workload
 
-FOLDER = pathlib.Path(__file__).resolve().parents[2] / "examples" / "cluster"
+FOLDER = pathlib.Path(__file__).resolve().parents[3] / "examples" / "cluster"
 sys.path.append(str(FOLDER))
 import caller
 import status

@@ -1,5 +1,5 @@
 #!/usr/bin/env python3
-"""bench/at_scale.py TIMES TEXT [OLD NEW]..
+"""tools/at_scale.py TIMES TEXT [OLD NEW]..
 
 Writes the text with each client's calls so many times over, in the same order, and with each OLD in it replaced by NEW. TEXT is a file,
 or a document and the heading above the text, as docs/COOKBOOK.md#a-rate-limit.
@@ -46,13 +46,13 @@ def at_scale(text, times, changes=()):
 def main():
     times, name, *changes = sys.argv[1:] if len(sys.argv) > 2 else ("", "")
     if not times.isdigit() or len(changes) % 2:
-        print("usage: bench/at_scale.py TIMES TEXT [OLD NEW]..", file=sys.stderr)
+        print("usage: tools/at_scale.py TIMES TEXT [OLD NEW]..", file=sys.stderr)
         return 2
     try:
         sys.stdout.write(at_scale(text_of(name), int(times), zip(changes[::2], changes[1::2])))
         return 0
     except (Missing, OSError) as fault:
-        print(f"bench/at_scale.py: {fault}", file=sys.stderr)
+        print(f"tools/at_scale.py: {fault}", file=sys.stderr)
         return 1
 
 

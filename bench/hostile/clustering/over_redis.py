@@ -19,7 +19,7 @@ import time
 from clustering import relay, texts
 from judging import answers, legality, report, treaties, workload
 
-FOLDER = pathlib.Path(__file__).resolve().parents[2] / "examples" / "cluster"
+FOLDER = pathlib.Path(__file__).resolve().parents[3] / "examples" / "cluster"
 sys.path.append(str(FOLDER))
 import caller
 import redis_engine

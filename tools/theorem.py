@@ -1,5 +1,5 @@
 #!/usr/bin/env python3
-"""bench/theorem.py
+"""tools/theorem.py
 
 Writes into docs/THEOREM.md, between marker lines, what is taken from the sources: the clause `done` of homeo::run (`clause`), the
 files of the heart with their lines (`heart`), and all files that the clauses of homeo::run reach (`files`). Run it after a change of
@@ -14,7 +14,7 @@ import sys
 
 sys.dont_write_bytecode = True
 ROOT = pathlib.Path(__file__).resolve().parent.parent
-sys.path[:0] = [str(ROOT / "bench"), str(ROOT / ".ci")]
+sys.path[:0] = [str(ROOT / "tools"), str(ROOT / ".ci")]
 import marked
 import reach
 
@@ -122,7 +122,7 @@ def check(verdict):
     text = DOCUMENT.read_text()
     for name, lines in parts().items():
         part = text.partition(marked.begin_of(name))[2].partition(marked.end_of(name))[0]
-        verdict(f"THEOREM.md: {name}", None if part.strip().splitlines() == lines else "not what stands in the sources: run bench/theorem.py")
+        verdict(f"THEOREM.md: {name}", None if part.strip().splitlines() == lines else "not what stands in the sources: run tools/theorem.py")
     rows = re.findall(r"^\| (`\w+`(?:, `\w+`)*) \| [^|]* \| \[[^\]]*\]\(([^)]+)\) \|$", text, re.M)
     words = [(word, (DOCUMENT.parent / target).resolve()) for listed, target in rows for word in re.findall(r"\w+", listed)]
     verdict("THEOREM.md: words", None if words else "there is no table of them")

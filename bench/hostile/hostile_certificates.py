@@ -1,4 +1,4 @@
-"""Certificates that are made to be dear or to be taken wrongly, for bench/hostile: each with its name and with what `verify` has to say."""
+"""Certificates that are made to be dear or to be taken wrongly, for bench/hostile/at-limits: each with its name and with what `verify` has to say."""
 import json
 
 MOST = 16_777_216

@@ -1,5 +1,5 @@
 #!/usr/bin/env python3
-"""bench/laws.py
+"""tools/laws.py
 
 Writes into docs/PROOFS.md, between the marker lines of `laws`, the laws of the crates: functions without code, in the files src/laws*.rt,
 whose clauses say what is true of definitions; each with the sentence that stands over it there. The gate compares.
@@ -36,7 +36,7 @@ def listed():
 def check(verdict):
     """docs/PROOFS.md has the laws as they stand in the sources."""
     part = DOCUMENT.read_text().partition(marked.begin_of("laws"))[2].partition(marked.end_of("laws"))[0]
-    verdict("PROOFS.md: laws", None if part.strip().splitlines() == listed() else "not those of the sources: run bench/laws.py")
+    verdict("PROOFS.md: laws", None if part.strip().splitlines() == listed() else "not those of the sources: run tools/laws.py")
 
 
 def main():

@@ -1,5 +1,5 @@
 #!/usr/bin/env python3
-"""bench/check_certificate.py < CERTIFICATE
+"""tools/check_certificate.py < CERTIFICATE
 
 Prints what `homeo verify` has to print of the certificate on standard input: `valid`, or `invalid` and the first fault. It is written
 from docs/CERTIFICATES.md alone and shares no code with the program; the gate compares the two. It can be copied, and read in one go.

@@ -1,4 +1,4 @@
-"""Runs the built program under a library that is loaded before the C library: what bench/refuse-memory and bench/refuse-io share."""
+"""Runs the built program under a library that is loaded before the C library: what bench/hostile/refuse-memory and bench/hostile/refuse-io share."""
 import argparse
 import collections
 import itertools
@@ -9,7 +9,7 @@ import re
 import subprocess
 import sys
 
-ROOT = pathlib.Path(__file__).resolve().parent.parent
+ROOT = pathlib.Path(__file__).resolve().parents[2]
 TIMEOUT = 60
 Ran = collections.namedtuple("Ran", "status output said counted")
 # A head and four batches, one of them refused, the last one without a newline. A read of 4,096 bytes ends at most one of them.

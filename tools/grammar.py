@@ -1,5 +1,5 @@
-"""Where a text is refused, and what the token at that place and those before it say of the grammar. bench/hints.py has the slips that come
-from other languages, bench/names.py those of names, and bench/numbers_told.py those of numbers."""
+"""Where a text is refused, and what the token at that place and those before it say of the grammar. tools/hints.py has the slips that come
+from other languages, tools/names.py those of names, and tools/numbers_told.py those of numbers."""
 import re
 
 TOKEN = re.compile(r"[A-Za-z]\w*|[0-9]+|:=|\.\.|<=|\S", re.A)

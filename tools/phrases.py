@@ -1,5 +1,5 @@
-"""What ./why says of phrases that are written as other languages write them: a table, tried in order behind that of bench/hints.py. `at` is
-the Place of bench/grammar.py."""
+"""What ./why says of phrases that are written as other languages write them: a table, tried in order behind that of tools/hints.py. `at` is
+the Place of tools/grammar.py."""
 import re
 
 from hints import NAME, ends_with, signed_range

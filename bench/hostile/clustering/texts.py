@@ -4,7 +4,7 @@ import random
 
 from judging import random_texts
 
-ROOT = pathlib.Path(__file__).resolve().parent.parent.parent
+ROOT = pathlib.Path(__file__).resolve().parents[3]
 HOT = """workload {version}
 sites 3
 {weights}{objects}

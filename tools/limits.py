@@ -1,5 +1,5 @@
 #!/usr/bin/env python3
-"""bench/limits.py
+"""tools/limits.py
 
 Measures with the program ($HOMEO, or the built one) how large texts may be before they are refused with E11, and writes the figures into
 docs/LANGUAGE.md, between the marker lines of `slots`, and into docs/COOKBOOK.md and examples/README.md, between those of `growth`. It

@@ -1,8 +1,8 @@
 #!/usr/bin/env python3
-"""bench/wrong_bodies.py
+"""tools/count_bodies.py
 
 Prints how many wrong bodies each crate has, those that the gate tries (crates/*/must-fail/) and the others (crates/*/wrong-bodies/, which
-bench/wrong-bodies tries with the first), and writes the table into docs/TESTS.md between the marker lines of `wrong-bodies`. It says which
+tools/wrong-bodies tries with the first), and writes the table into docs/TESTS.md between the marker lines of `wrong-bodies`. It says which
 don't fit their files, and where a crate has more in must-fail/ than its share. The gate refuses both, and another table.
 """
 import pathlib
@@ -45,7 +45,7 @@ INNER = {
     "homeo_cert_reader": [],
     "homeo_words": [],
 }
-# Crates that take minutes to prove, and would be proved once more for their wrong bodies: bench/wrong-bodies alone tries these.
+# Crates that take minutes to prove, and would be proved once more for their wrong bodies: tools/wrong-bodies alone tries these.
 DEAR = ["homeo_syntax", "homeo_reader", "homeo_rules", "homeo_print", "homeo_core", "homeo_forecast", "homeo_cert", "homeo_verify", "homeo_session", "homeo_wire", "homeo_cluster"]
 # Those of which the gate tries what stands here, and nothing else.
 FIXED = {**INNER, **{crate: [] for crate in DEAR}}
@@ -70,8 +70,8 @@ def check(verdict):
     part = DOCUMENT.read_text().partition(marked.begin_of("wrong-bodies"))[2].partition(marked.end_of("wrong-bodies"))[0]
     written, wanted = part.strip().splitlines(), listed()
     wrong = [line for line in written if line not in wanted] + [line for line in wanted if line not in written]
-    fault = f"run bench/wrong_bodies.py; it differs at {wrong[0]!r}" if wrong else None
-    verdict("TESTS.md: wrong bodies", fault or (None if written == wanted else "another order: run bench/wrong_bodies.py"))
+    fault = f"run tools/count_bodies.py; it differs at {wrong[0]!r}" if wrong else None
+    verdict("TESTS.md: wrong bodies", fault or (None if written == wanted else "another order: run tools/count_bodies.py"))
     for crate in crates.named():
         if wrong_bodies(crate):
             verdict(f"wrong bodies of {crate}", next(faults_of(crate), None))

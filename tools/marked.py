@@ -2,7 +2,7 @@
 
 
 def begin_of(name):
-    return f"<!-- {name}: from here a script of bench/ writes -->"
+    return f"<!-- {name}: from here a script writes -->"
 
 
 def end_of(name):
