@@ -2,6 +2,8 @@
 #![tactic(auto)]
 
 mod own;
+mod scratch;
 mod step;
 
-pub use step::{LocalStep, local_step};
+pub use scratch::Scratch;
+pub use step::{LocalStep, local_step, local_step_in};

@@ -13,8 +13,9 @@ ghost use Rattle.homeo_split.specs.Shape.{has_places};
 ghost use Rattle.homeo_local.specs.OwnValues.{own_values, own_shape};
 
 use crate::own::Own;
+use crate::scratch::Scratch;
 use homeo_meaning::Database;
-use homeo_split::{Temporaries, run};
+use homeo_split::run;
 use homeo_syntax::{LCommand, List, Memory, Prints};
 use std::alloc::Global;
 
@@ -56,14 +57,42 @@ pub fn local_step(
         values_of s.deltas.items n ≡ values_of deltas.now n) }
     ensures rising { IfOk result (λ s. IsStrictlySortedBy nat_cmp s.written.items) }
 {
+    local_step_in(alloc, c, base, deltas, &mut Scratch::new(alloc))
+}
+
+/// The same, where the lists of an earlier step are used again.
+///
+/// # Errors
+///
+/// `Memory` when out of memory.
+pub fn local_step_in(
+    alloc: Global,
+    c: &LCommand,
+    base: &[i64],
+    deltas: &[i64],
+    scratch: &mut Scratch,
+) -> Result<LocalStep, Memory>
+    requires places { has_places (own_shape (length deltas.now)) (plain_lcommand c.now) ≡ true }
+    requires sums { (n : ℕ) → FitsSigned w64 (own_values base.now deltas.now n) }
+    requires small { can_exec run_limit (plain_lcommand c.now) (whole (own_values base.now deltas.now)) ≡ true }
+    ensures prints { IfOk result (λ s. s.prints.items ≡ (exec (plain_lcommand c.now) (whole (own_values base.now deltas.now))).prints) }
+    ensures deltas { IfOk result (λ s. (n : ℕ) →
+        let v = (exec (plain_lcommand c.now) (whole (own_values base.now deltas.now))).state (BaseAt n) in
+        FitsSigned w64 (v -ℤ values_of base.now n) → values_of s.deltas.items n ≡ v -ℤ values_of base.now n) }
+    ensures count { IfOk result (λ s. length s.deltas.items ≡ length deltas.now) }
+    ensures written { IfOk result (λ s. (n : ℕ) → list_any (λ m. n == m) s.written.items ≡ false →
+        values_of s.deltas.items n ≡ values_of deltas.now n) }
+    ensures rising { IfOk result (λ s. IsStrictlySortedBy nat_cmp s.written.items) }
+{
     let mut state = Own {
         base,
-        deltas: Vec::from_slice(alloc, deltas)?,
-        temporaries: Temporaries::new(alloc),
+        deltas: scratch.copy_of(alloc, deltas)?,
+        temporaries: scratch.temporaries(alloc),
         written: Vec::new(alloc),
     };
     let mut prints = List::new(alloc);
     run(c, &mut state, &mut prints)?;
+    scratch.take_back_temporaries(state.temporaries);
     let mut written = state.written;
     written.sort_unstable();
     written.dedup();
