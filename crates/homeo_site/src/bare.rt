@@ -15,12 +15,13 @@ ghost use Rattle.homeo_site.specs.SiteView.{with_deltas};
 use crate::own_round::OwnRound;
 use crate::start::SiteStart;
 use homeo_build::Compiled;
-use homeo_local::LocalStep;
+use homeo_local::{LocalStep, Scratch};
 use homeo_meaning::{CallId, Database};
 use homeo_plan::Broken;
 use homeo_syntax::{Memory, Prints};
 use std::alloc::Global;
 use std::marker::Model;
+use std::mem;
 
 /// What a call comes to at its site.
 #[derive(Drop)]
@@ -36,6 +37,7 @@ pub enum Ran {
 pub struct BareSite {
     own: OwnRound,
     deltas: Database,
+    scratch: Scratch,
 }
 
 impl Model for BareSite {
@@ -64,8 +66,13 @@ impl BareSite {
             own,
             deltas,
             segment: _,
+            scratch,
         } = start;
-        BareSite { own, deltas }
+        BareSite {
+            own,
+            deltas,
+            scratch,
+        }
     }
 
     /// The site with these deltas in the round of a start, where they meet its treaty.
@@ -88,10 +95,15 @@ impl BareSite {
             own,
             deltas: _,
             segment: _,
+            scratch,
         } = start;
         match own.failure_at(alloc, deltas.as_slice())? {
             Some(_) => Ok(None),
-            None => Ok(Some(BareSite { own, deltas })),
+            None => Ok(Some(BareSite {
+                own,
+                deltas,
+                scratch,
+            })),
         }
     }
 
@@ -151,11 +163,14 @@ impl BareSite {
             deltas,
             written,
             prints,
-        } = self.own.step(alloc, call, self.deltas.as_slice())?;
+        } = self
+            .own
+            .step(alloc, call, self.deltas.as_slice(), &mut self.scratch)?;
         match self.own.failure(written.as_slice(), deltas.as_slice()) {
             Some(broken) => Ok(Ran::Breaks(broken)),
             None => {
-                self.deltas = deltas;
+                let before = mem::replace(&mut self.deltas, deltas);
+                self.scratch.take_back(before);
                 Ok(Ran::Kept(prints))
             }
         }
@@ -165,6 +180,13 @@ impl BareSite {
     pub fn renew(&mut self, start: SiteStart)
         ensures { self.new ≡ bare_begun start }
     {
-        *self = BareSite::begin(start);
+        let SiteStart {
+            own,
+            deltas,
+            segment: _,
+            scratch: _,
+        } = start;
+        self.own = own;
+        self.deltas = deltas;
     }
 }

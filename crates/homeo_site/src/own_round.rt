@@ -18,7 +18,7 @@ ghost use Rattle.homeo_site.specs.SiteView.{with_deltas};
 
 use crate::own_treaty::first_failure;
 use homeo_build::Compiled;
-use homeo_local::{LocalStep, local_step};
+use homeo_local::{LocalStep, Scratch, local_step_in};
 use homeo_meaning::CallId;
 use homeo_outline::ObjectPlan;
 use homeo_plan::Broken;
@@ -112,12 +112,14 @@ impl OwnRound {
         &self.plan
     }
 
-    /// The local step of a call of one of the site's clients, from these deltas of the site: its L form is run on base plus deltas.
+    /// The local step of a call of one of the site's clients, from these deltas of the site: its L form is run on base plus deltas,
+    /// with the lists of an earlier step.
     pub(crate) fn step(
         &self,
         alloc: Global,
         call: CallId,
         deltas: &[i64],
+        scratch: &mut Scratch,
     ) -> Result<LocalStep, Memory>
         requires call { IsCallAt (plain_workload self.now.work) self.now.number call }
         requires ready { IsReady (plain_workload self.now.work) (with_deltas self.now deltas.now) }
@@ -128,7 +130,7 @@ impl OwnRound {
     {
         let place = self.compiled.place(call) as usize;
         let form = self.compiled.form(place);
-        local_step(alloc, form, self.plan.base.as_slice(), deltas)
+        local_step_in(alloc, form, self.plan.base.as_slice(), deltas, scratch)
     }
 
     /// What fails first of the site's treaty after a call's local step, where these are all objects that it wrote, and these the

@@ -13,7 +13,7 @@ use crate::lists::{copy_to_all, empty_copies};
 use crate::own_round::OwnRound;
 use crate::start::SiteStart;
 use homeo_history::{Entry, Segment};
-use homeo_local::LocalStep;
+use homeo_local::{LocalStep, Scratch};
 use homeo_meaning::{CallId, Database};
 use homeo_outline::ObjectPlan;
 use homeo_syntax::{List, Memory, Prints};
@@ -29,6 +29,7 @@ pub struct Site {
     own: OwnRound,
     deltas: Database,
     segment: Segment,
+    scratch: Scratch,
 }
 
 impl Model for Site {
@@ -59,11 +60,13 @@ impl Site {
             own,
             deltas,
             segment,
+            scratch,
         } = start;
         Site {
             own,
             deltas,
             segment,
+            scratch,
         }
     }
 
@@ -123,8 +126,15 @@ impl Site {
         ensures state { self.new ≡ record { work = start.work; state = begun start.number start.round start.base; spare = 0 } }
         ensures segment { plain_segment result ≡ self.old.state.segment }
     {
-        let before = mem::replace(self, Site::begin(start));
-        before.into_segment()
+        let SiteStart {
+            own,
+            deltas,
+            segment,
+            scratch: _,
+        } = start;
+        self.own = own;
+        self.deltas = deltas;
+        mem::replace(&mut self.segment, segment)
     }
 
     /// Finds the local step of a call on the site's present state, and takes room for so many copies of its prints: with that, an attempt
@@ -150,7 +160,9 @@ impl Site {
             deltas,
             written,
             prints,
-        } = self.own.step(alloc, call, self.deltas.as_slice())?;
+        } = self
+            .own
+            .step(alloc, call, self.deltas.as_slice(), &mut self.scratch)?;
         let lists = empty_copies(alloc, copies, prints.as_slice().len() as u64)?;
         self.segment.entries.reserve(1)?;
         let room = Room {
@@ -230,7 +242,8 @@ impl Site {
             deltas,
             prints,
         } = change;
-        self.deltas = deltas;
+        let before = mem::replace(&mut self.deltas, deltas);
+        self.scratch.take_back(before);
         let _ = self.segment.entries.push(Entry { call, prints });
     }
 }

@@ -9,6 +9,7 @@ ghost use Rattle.homeo_build.specs.Plan.{IsObjectPlan};
 use crate::own_round::OwnRound;
 use homeo_build::Compiled;
 use homeo_history::Segment;
+use homeo_local::Scratch;
 use homeo_meaning::Database;
 use homeo_outline::ObjectPlan;
 use homeo_syntax::{List, Memory};
@@ -22,6 +23,7 @@ pub struct SiteStart {
     pub(crate) own: OwnRound,
     pub(crate) deltas: Database,
     pub(crate) segment: Segment,
+    pub(crate) scratch: Scratch,
 }
 
 impl Model for SiteStart {
@@ -76,6 +78,7 @@ impl SiteStart {
             segment: Segment {
                 entries: List::new(alloc),
             },
+            scratch: Scratch::new(alloc),
         })
     }
 }

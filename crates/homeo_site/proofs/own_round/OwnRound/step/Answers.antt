@@ -44,8 +44,8 @@ form_of u v work call n f same is within place form =
     (planned_there (plain_workload u) call n within place))
     ∙ ap (λ (z : Workload). (planned_at (plain_workload z) call).command) is
 
-pub local_step-requires-clause-places : goal.local_step-requires-clause-places
-local_step-requires-clause-places c =
+pub local_step_in-requires-clause-places : goal.local_step_in-requires-clause-places
+local_step_in-requires-clause-places c =
     step_places (plain_workload c.args.self.now.work) (with_deltas c.args.self.now c.args.deltas.now)
     (subst (λ (v : StartValue). IsAccepted (plain_workload v.work)) c.self.view_is c.self.invariant.accepted) c.requires.ready c.args.call
     c.requires.call (plain_lcommand c.form-form.result.now) c.as_slice.result.now
@@ -53,8 +53,8 @@ local_step-requires-clause-places c =
     (c.deref-2.ensures ∙ ap (λ (v : StartValue). v.work) c.self.view_is) c.place-place.ensures.within c.place-place.ensures.place c.form-form.ensures)
     (c.as_slice.ensures ∙ ap (λ (p : ObjectPlan). p.base.items) c.deref-3.ensures ∙ ap (λ (v : StartValue). v.base) c.self.view_is)
 
-pub local_step-requires-clause-sums : goal.local_step-requires-clause-sums
-local_step-requires-clause-sums c =
+pub local_step_in-requires-clause-sums : goal.local_step_in-requires-clause-sums
+local_step_in-requires-clause-sums c =
     step_sums (plain_workload c.args.self.now.work) (with_deltas c.args.self.now c.args.deltas.now)
     (subst (λ (v : StartValue). IsAccepted (plain_workload v.work)) c.self.view_is c.self.invariant.accepted) c.requires.ready c.args.call
     c.requires.call (plain_lcommand c.form-form.result.now) c.as_slice.result.now
@@ -62,8 +62,8 @@ local_step-requires-clause-sums c =
     (c.deref-2.ensures ∙ ap (λ (v : StartValue). v.work) c.self.view_is) c.place-place.ensures.within c.place-place.ensures.place c.form-form.ensures)
     (c.as_slice.ensures ∙ ap (λ (p : ObjectPlan). p.base.items) c.deref-3.ensures ∙ ap (λ (v : StartValue). v.base) c.self.view_is)
 
-pub local_step-requires-clause-small : goal.local_step-requires-clause-small
-local_step-requires-clause-small c =
+pub local_step_in-requires-clause-small : goal.local_step_in-requires-clause-small
+local_step_in-requires-clause-small c =
     step_small (plain_workload c.args.self.now.work) (with_deltas c.args.self.now c.args.deltas.now)
     (subst (λ (v : StartValue). IsAccepted (plain_workload v.work)) c.self.view_is c.self.invariant.accepted) c.requires.ready c.args.call
     c.requires.call (plain_lcommand c.form-form.result.now) c.as_slice.result.now
@@ -73,14 +73,14 @@ local_step-requires-clause-small c =
 
 pub returns-clause-prints : goal.returns-clause-prints
 returns-clause-prints c =
-    IfOk-weaker c.local_step.result _ _ (λ s.
+    IfOk-weaker c.local_step_in.result _ _ (λ s.
     prints_left (plain_workload c.args.self.now.work) (with_deltas c.args.self.now c.args.deltas.now)
     (subst (λ (v : StartValue). IsAccepted (plain_workload v.work)) c.self.view_is c.self.invariant.accepted) c.requires.ready c.args.call
     c.requires.call (plain_lcommand c.form-form.result.now) c.as_slice.result.now
     (form_of c.deref.result.now c.deref-2.result.now c.args.self.now.work c.args.call c.place-place.result _ (c.deref.ensures ∙ sym c.deref-2.ensures)
     (c.deref-2.ensures ∙ ap (λ (v : StartValue). v.work) c.self.view_is) c.place-place.ensures.within c.place-place.ensures.place c.form-form.ensures)
     (c.as_slice.ensures ∙ ap (λ (p : ObjectPlan). p.base.items) c.deref-3.ensures ∙ ap (λ (v : StartValue). v.base) c.self.view_is)
-    s.prints.items) c.local_step.ensures.prints
+    s.prints.items) c.local_step_in.ensures.prints
 
 pub returns-clause-deltas : goal.returns-clause-deltas
 returns-clause-deltas c =
@@ -91,4 +91,4 @@ returns-clause-deltas c =
     (form_of c.deref.result.now c.deref-2.result.now c.args.self.now.work c.args.call c.place-place.result _ (c.deref.ensures ∙ sym c.deref-2.ensures)
     (c.deref-2.ensures ∙ ap (λ (v : StartValue). v.work) c.self.view_is) c.place-place.ensures.within c.place-place.ensures.place c.form-form.ensures)
     (c.as_slice.ensures ∙ ap (λ (p : ObjectPlan). p.base.items) c.deref-3.ensures ∙ ap (λ (v : StartValue). v.base) c.self.view_is)
-    s.deltas.items count left) c.local_step.result c.local_step.ensures.count c.local_step.ensures.deltas
+    s.deltas.items count left) c.local_step_in.result c.local_step_in.ensures.count c.local_step_in.ensures.deltas

@@ -1,5 +1,5 @@
 -- The state after the commit is that after the call's local step.
-use Rattle.std.proofs.Common.{◌<◌, refl, ap, arith}
+use Rattle.std.proofs.Common.{◌<◌, ℤ, refl, ap, ◌∙◌, arith}
 use Rattle.homeo_syntax.specs.Listed.{Listed}
 use Rattle.homeo_history.specs.declared.history.Entry.{Entry}
 use Rattle.homeo_site.specs.SiteView.{SiteValue}
@@ -11,8 +11,9 @@ invariant_of-self c =
     let spare = ap (λ (v : SiteValue). v.spare) c.self.view_is in
     let some : 0 < c.self.inside.segment.entries.spare = omega (arith, spare, c.requires.spare) in
     let pushed = on_ok c.push.result (c.push.ensures.succeeds some) c.push.ensures.ok in
+    let kept = ap (λ (d : Listed ℤ). d.items) c.replace-before.ensures.after in
     commit_holds c.self.inside.own c.self.inside.deltas.items c.self.inside.segment c.args.self.now c.self.view_is c.args.change.call
-    c.args.change.deltas.items _ _ refl c.requires.change.prints c.requires.change.deltas (ap (λ (l : Listed Entry). l.items) pushed)
+    _ _ _ refl c.requires.change.prints (kept ∙ c.requires.change.deltas) (ap (λ (l : Listed Entry). l.items) pushed)
     c.self.invariant c.requires.call c.requires.change.keeps
 
 pub returns : goal.returns
@@ -20,6 +21,7 @@ returns c =
     let spare = ap (λ (v : SiteValue). v.spare) c.self.view_is in
     let some : 0 < c.self.inside.segment.entries.spare = omega (arith, spare, c.requires.spare) in
     let pushed = on_ok c.push.result (c.push.ensures.succeeds some) c.push.ensures.ok in
+    let kept = ap (λ (d : Listed ℤ). d.items) c.replace-before.ensures.after in
     commit_value c.self.inside.own c.self.inside.deltas.items c.self.inside.segment c.args.self.now c.self.view_is c.args.change.call
-    c.args.change.deltas.items _ _ refl c.requires.change.prints c.requires.change.deltas (ap (λ (l : Listed Entry). l.items) pushed)
+    _ _ _ refl c.requires.change.prints (kept ∙ c.requires.change.deltas) (ap (λ (l : Listed Entry). l.items) pushed)
     (ap (λ (l : Listed Entry). l.spare) pushed)

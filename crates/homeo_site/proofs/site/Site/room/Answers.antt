@@ -17,6 +17,11 @@ step-requires-clause-ready c =
     ready_here c.self.inside.own c.self.inside.deltas.items c.self.inside.segment c.args.self.now c.self.view_is c.as_slice.result.now
     (c.as_slice.ensures ∙ ap (λ (v : SiteValue). v.state.deltas) c.self.view_is) c.args.call c.self.invariant
 
+pub invariant_of-self-in_err-reserve : goal.invariant_of-self-in_err-reserve
+invariant_of-self-in_err-reserve c =
+    still_site c.self.inside.own c.self.inside.own c.self.inside.deltas.items c.self.inside.segment _ c.self.invariant refl
+    (ap (λ l. l.items) c.in_err-reserve.ensures.err)
+
 pub returns-in_err-reserve-clause-state : goal.returns-in_err-reserve-clause-state
 returns-in_err-reserve-clause-state c =
     spare_changed c.self.inside.own c.self.inside.own c.self.inside.deltas.items c.self.inside.segment _ c.args.self.now refl
