@@ -1,8 +1,9 @@
 //! The values of expressions, and whether conditions hold.
 
-ghost use Rattle.std.specs.Prelude.{◌≡◌, pos, true, map};
+ghost use Rattle.std.specs.Prelude.{◌≡◌, neg_ℤ, pos, true, map};
 ghost use Rattle.homeo_syntax.specs.LowView.{low_exprs, low_tests, plain_lexpr, plain_ltest, plain_lcond};
 ghost use Rattle.homeo_meaning.specs.Meaning.{compared};
+ghost use Rattle.homeo_meaning.specs.Small.{is_small};
 ghost use Rattle.homeo_meaning.specs.LowMeaning.{value, sum_value, product_value, passes, holds};
 ghost use Rattle.homeo_split.specs.CanExec.{run_limit, expr_fits, sum_fits, product_fits, test_fits, cond_fits};
 
@@ -22,7 +23,9 @@ fn compared(op: Compare, left: i64, right: i64) -> bool
 }
 
 /// The value of an expression on what is read, where each number on the way is within the run_limit of runs.
+// (most expressions are a number or a name, so the choice among their kinds stands where it is asked for)
 #[cycle(values)]
+#[inline(always)]
 #[tactic(auto, using(homeo_syntax::proofs::Measures::low_expr_parts, std::proofs::lemmas::Bool::and_parts, homeo_syntax::proofs::LowViews::low_phrase_views), unfolding(crate::specs::Key::definitions, homeo_meaning::specs::Key::definitions))]
 pub fn value<S: Reads>(e: &LExpr, state: &S) -> i64
     requires { expr_fits run_limit (plain_lexpr e.now) (S.values state.now) ≡ true }
@@ -34,8 +37,17 @@ pub fn value<S: Reads>(e: &LExpr, state: &S) -> i64
         LExpr::Read(x) => state.read(*x),
         LExpr::Sum(es) => sum(es.as_slice(), state),
         LExpr::Product(es) => product(es.as_slice(), state),
-        LExpr::Neg(e) => minus(value(e, state)),
+        LExpr::Neg(e) => negation(e, state),
     }
+}
+
+#[cycle(values)]
+fn negation<S: Reads>(e: &Box<LExpr>, state: &S) -> i64
+    requires fits { expr_fits run_limit (plain_lexpr e.now.value) (S.values state.now) ≡ true }
+    requires small { is_small run_limit (neg_ℤ (value (plain_lexpr e.now.value) (S.values state.now))) ≡ true }
+    ensures { result ≡ neg_ℤ (value (plain_lexpr e.now.value) (S.values state.now)) }
+{
+    minus(value(e, state))
 }
 
 #[cycle(values)]

@@ -1,5 +1,5 @@
 -- Negations, and one more term or factor.
-use Rattle.std.proofs.Common.{rules, ◌≡◌, ◌+◌, ◌+ℤ◌, ◌*ℤ◌, neg_ℤ, true, map, drop, w64, to_z, sym, ap, ◌∙◌, subst}
+use Rattle.std.proofs.Common.{rules, ◌≡◌, ◌+◌, ◌+ℤ◌, ◌*ℤ◌, true, map, drop, w64, to_z, sym, ap, ◌∙◌, subst}
 use Rattle.homeo_syntax.specs.LowView.{low_exprs, plain_lexpr}
 use Rattle.homeo_syntax.specs.declared.low.LExpr.{the_lemmas}
 use Rattle.homeo_syntax.proofs.LowViews.{low_Neg}
@@ -14,8 +14,7 @@ use Rattle.homeo_split.proofs.phrases.+values.Goals as goal
 pub value-returns-in-Neg : goal.value-returns-in-Neg
 value-returns-in-Neg g t c =
     let s = g.S.Reads.values c.args.state.now in
-    let part = kept_is c.value.result _ (search rules) c.value.ensures ∙ ap (λ e. value (plain_lexpr e) s) c.deref.ensures in
-    kept_is c.minus.result _ (search rules) (c.minus.ensures ∙ ap neg_ℤ part)
+    kept_is c.negation.result _ (search rules) c.negation.ensures
     ∙ sym (ap (λ e. value (plain_lexpr e) s) c.in-Neg.is ∙ ap (λ e. value e s) (low_Neg c.in-Neg.e) ∙ value_Neg s (plain_lexpr c.in-Neg.e.value))
 
 pub sum-value-requires : goal.sum-value-requires
