@@ -1,5 +1,6 @@
 mod Adding
 mod CheckedSteps
+mod ConstantSteps
 mod DeltasBySite
 pub mod DeltasInOrder
 mod FactorsFound

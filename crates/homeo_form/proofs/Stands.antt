@@ -119,6 +119,17 @@ put_other s t p a eb ew eo k h = λ i l. at_each_place P each l i
         (λ i. unwrap_or (form_in (eo i) y) (first (Base y) i))
         ∙ sym (ap (λ b. cond b a (forms_of s (BaseAt y))) (at_other (λ q. same_location (plain_place q) (BaseAt y) ≡ false) (λ n. refl) (λ n. refl) (λ x j. refl) p k))
 
+-- ---- constants as a round begins
+pub base_constant : (w : Bool) (b : ℕ → ℤ) (p : Place) (x : ℕ) → p ≡ Base x → b x ≡ (first_forms w b (plain_place p)).constant
+unfolding plan_definitions follow_definitions
+base_constant true b p x e = sym (ap (λ q. (object_forms b (plain_place q)).constant) e)
+base_constant false b p x e = sym (ap (λ q. (base_forms b (plain_place q)).constant) e)
+
+pub other_constant : (w : Bool) (b : ℕ → ℤ) (p : Place) → IsOther p → pos 0 ≡ (first_forms w b (plain_place p)).constant
+unfolding plan_definitions follow_definitions
+other_constant true b p k = at_other (λ q. pos 0 ≡ (object_forms b (plain_place q)).constant) (λ n. refl) (λ n. refl) (λ x j. refl) p k
+other_constant false b p k = at_other (λ q. pos 0 ≡ (base_forms b (plain_place q)).constant) (λ n. refl) (λ n. refl) (λ x j. refl) p k
+
 -- ---- the form of a delta as a round begins
 pub base_delta :
     (b : ℕ → ℤ) (p : Place) (x j : ℕ) → p ≡ Delta x j → term_form (record { delta = record { object = x; site = j }; factor = pos 1 }) ≡ base_forms b (plain_place p)

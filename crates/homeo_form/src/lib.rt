@@ -2,6 +2,7 @@
 #![tactic(auto)]
 
 mod checked;
+mod constants;
 mod deltas;
 mod expressions;
 mod form;
@@ -12,6 +13,7 @@ mod standing;
 mod terms;
 
 pub use checked::checked_form;
+pub use constants::constant;
 pub use deltas::{in_order as deltas_in_order, push_written};
 pub use expressions::{difference as expression_difference, form as expression_form};
 pub use form::Form;

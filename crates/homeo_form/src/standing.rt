@@ -13,7 +13,7 @@ ghost use Rattle.homeo_follow.specs.Follow.{object_forms, gain};
 ghost use Rattle.homeo_form.specs.Standing.{first_forms, forms_of};
 
 use crate::form::{Form, Total};
-use crate::numbers::{added, multiplied};
+use crate::numbers::{added, multiplied, widened};
 use crate::objects::ObjectForms;
 use homeo_meaning::padded::item_or;
 use homeo_plan::{Delta, Term};
@@ -110,6 +110,16 @@ impl<'a> Standing<'a> {
         }
     }
 
+    /// The constant of the form at a place.
+    pub(crate) fn constant_at(&self, place: Place) -> i128
+        ensures { result ≡ (forms_of self.now (plain_place place)).constant }
+    {
+        match self.get(place) {
+            Some(form) => form.constant(),
+            None => self.first_constant(place),
+        }
+    }
+
     /// The form at a place, with a number added as in a sum.
     pub(crate) fn form_beside(&self, alloc: Global, place: Place, n: i128) -> Result<Form, Memory>
         requires place_small { Numbers (IsSmall form_limit) (forms_of self.now (plain_place place)) }
@@ -180,6 +190,16 @@ impl<'a> Standing<'a> {
                 total.plus(alloc, &negated)
             }
             None => self.subtract_first(place, total),
+        }
+    }
+
+    /// The constant of the form at a place where nothing is set: the base of an object, and 0 elsewhere.
+    fn first_constant(&self, place: Place) -> i128
+        ensures { result ≡ (first_forms self.now.are_whole (values_of self.now.base.now) (plain_place place)).constant }
+    {
+        match place {
+            Place::Base(object) => widened(item_or(self.base, object as usize, 0)),
+            Place::Named(_) | Place::Fresh(_) | Place::Delta { .. } => 0,
         }
     }
 
