@@ -1,7 +1,6 @@
 -- Conditions that are kept, one test after another.
-use Rattle.std.proofs.Common.{◌≡◌, ℕ, ◌+◌, ◌<◌, ◌≤◌, Bool, true, false, not, cond, ◌&&◌, List, [], ◌++◌, map, take, drop, get_or, length, ℤ, refl, sym, ap, ap₂, ◌∙◌, subst, true≢false, append-nil, length-append, arith}
-use Rattle.std.proofs.Math.Seq.{take-append_seam, drop-append_seam}
-use Rattle.std.proofs.lemmas.List.{append_assoc, map-append, take-map, drop-map, length-map}
+use Rattle.std.proofs.Common.{◌≡◌, ℕ, ◌+◌, ◌<◌, ◌≤◌, Bool, true, false, not, cond, ◌&&◌, List, [], ◌∷◌, ◌++◌, map, drop, get_or, length, ℤ, refl, sym, ap, ◌∙◌, subst, true≢false, append-nil, arith}
+use Rattle.std.proofs.lemmas.List.{append_assoc, get_or_default}
 use Rattle.homeo_syntax.specs.Key.{definitions as syntax_definitions}
 use Rattle.homeo_syntax.specs.declared.phrase.Compare.{Compare as Comparing}
 use Rattle.homeo_syntax.specs.Low as l
@@ -28,69 +27,32 @@ use Rattle.homeo_follow.specs.Key.{definitions}
 use Rattle.homeo_follow.specs.Follow.{passes_by, holds_by, passed_test, failed_test, passed, failed}
 use Rattle.homeo_follow.proofs.Walked.{holds_at_base, passed_is}
 use Rattle.homeo_plan.specs.Limit.{form_limit}
-use Rattle.homeo_linear.specs.inner.Kept.{AreSides, kept_comparison, kept_test, kept_cond}
+use Rattle.homeo_linear.specs.inner.Kept.{AreSides, Decides, cond_of, kept_comparison, kept_test, kept_cond}
 use Rattle.homeo_form.proofs.FormSteps.{small_form}
 use Rattle.homeo_linear.proofs.Comparing.{are_apart}
 
--- what keeps a condition whose first tests pass, and have these atoms
-abbrev pub kept_from : Forms → List Linear → l.Cond → List Linear
-kept_from fs ys c = cond (holds_by fs c) (ys ++ passed fs c) (failed fs c)
-
-kept_more : (fs : Forms) (ys : List Linear) (t : l.Test) (c : l.Cond) → true ≡ passes_by fs t → kept_from fs (ys ++ kept_test fs t) c ≡ kept_from fs ys (l.MoreTest t c)
-unfolding definitions plan_definitions
-kept_more fs ys t c h = go (passes_by fs t) h
-  where
-    go : (v : Bool) → true ≡ v →
-        cond (holds_by fs c) ((ys ++ cond v (passed_test fs t) (failed_test fs t)) ++ passed fs c) (failed fs c)
-        ≡ cond (v && holds_by fs c) (ys ++ (passed_test fs t ++ passed fs c)) (cond v (failed fs c) (failed_test fs t))
-    go true e = ap (λ xs. cond (holds_by fs c) xs (failed fs c)) (append_assoc ys (passed_test fs t) (passed fs c))
-    go false e = absurd (true≢false e)
-
-kept_stop : (fs : Forms) (ys : List Linear) (t : l.Test) (c : l.Cond) → false ≡ passes_by fs t → kept_test fs t ≡ kept_from fs ys (l.MoreTest t c)
-unfolding definitions plan_definitions
-kept_stop fs ys t c h = go (passes_by fs t) h
-  where
-    go : (v : Bool) → false ≡ v →
-        cond v (passed_test fs t) (failed_test fs t)
-        ≡ cond (v && holds_by fs c) (ys ++ (passed_test fs t ++ passed fs c)) (cond v (failed fs c) (failed_test fs t))
-    go true e = absurd (true≢false (sym e))
-    go false e = refl
-
 -- ---- the first of the tests that are left
 pub record TestStep (fs : Forms) (ts : List LTest) (i : ℕ) (t : LTest) : Type 0 where
-  pub first : CanTest (IsSmall form_limit) (fs) (plain_ltest t)
-  pub rest : CanCond (IsSmall form_limit) (fs) (low_tests (map plain_ltest (drop (i + 1) ts)))
-  pub holds : holds_by fs (low_tests (map plain_ltest (drop i ts)))
-      ≡ (passes_by fs (plain_ltest t) && holds_by fs (low_tests (map plain_ltest (drop (i + 1) ts))))
-  pub pass : (ys : List Linear) → true ≡ passes_by fs (plain_ltest t) →
-      kept_from fs (ys ++ kept_test fs (plain_ltest t)) (low_tests (map plain_ltest (drop (i + 1) ts)))
-      ≡ kept_from fs ys (low_tests (map plain_ltest (drop i ts)))
-  pub fail : (ys : List Linear) → false ≡ passes_by fs (plain_ltest t) → kept_test fs (plain_ltest t) ≡ kept_from fs ys (low_tests (map plain_ltest (drop i ts)))
+  pub first : CanTest (IsSmall form_limit) fs (plain_ltest t)
+  pub rest : CanCond (IsSmall form_limit) fs (cond_of (drop (i + 1) ts))
+  pub held : holds_by fs (cond_of (drop i ts)) ≡ (passes_by fs (plain_ltest t) && holds_by fs (cond_of (drop (i + 1) ts)))
+  pub asked : passed fs (cond_of (drop i ts)) ≡ passed_test fs (plain_ltest t) ++ passed fs (cond_of (drop (i + 1) ts))
+  pub missed : failed fs (cond_of (drop i ts)) ≡ cond (passes_by fs (plain_ltest t)) (failed fs (cond_of (drop (i + 1) ts))) (failed_test fs (plain_ltest t))
 
 pub test_step :
     {fs : Forms} (ts : List LTest) (i : ℕ) (t : LTest) → i < length ts → t ≡ get_or ts i t →
-    CanCond (IsSmall form_limit) (fs) (low_tests (map plain_ltest (drop i ts))) → TestStep fs ts i t
+    CanCond (IsSmall form_limit) fs (cond_of (drop i ts)) → TestStep fs ts i t
 unfolding definitions plan_definitions syntax_definitions
 test_step {fs} ts i t h p can =
     let next = drop_next plain_ltest ts i t h p in
-    let more = low_tests (map plain_ltest (drop (i + 1) ts)) in
-    let k = subst (λ l. CanCond (IsSmall form_limit) (fs) (low_tests l)) next can in
+    let k = subst (λ l. CanCond (IsSmall form_limit) fs (low_tests l)) next can in
     record {
       first = k.0;
       rest = k.1;
-      holds = ap (λ l. holds_by fs (low_tests l)) next;
-      pass = λ ys e. kept_more fs ys (plain_ltest t) more e ∙ sym (ap (λ l. kept_from fs ys (low_tests l)) next);
-      fail = λ ys e. kept_stop fs ys (plain_ltest t) more e ∙ sym (ap (λ l. kept_from fs ys (low_tests l)) next);
+      held = ap (λ l. holds_by fs (low_tests l)) next;
+      asked = ap (λ l. passed fs (low_tests l)) next;
+      missed = ap (λ l. failed fs (low_tests l)) next;
     }
-
-pub tests_hold : (fs : Forms) (ts : List LTest) (i : ℕ) → length ts ≤ i → true ≡ holds_by fs (low_tests (map plain_ltest (drop i ts)))
-unfolding definitions syntax_definitions
-tests_hold fs ts i h = sym (ap (λ l. holds_by fs (low_tests l)) (drop_none plain_ltest ts i h))
-
-pub tests_kept : (fs : Forms) (ys : List Linear) (ts : List LTest) (i : ℕ) → length ts ≤ i → ys ≡ kept_from fs ys (low_tests (map plain_ltest (drop i ts)))
-unfolding definitions plan_definitions syntax_definitions
-tests_kept fs ys ts i h =
-    sym (ap (λ l. kept_from fs ys (low_tests l)) (drop_none plain_ltest ts i h) ∙ append-nil ys)
 
 -- ---- each kind of test
 module _ (fs : Forms) (t : LTest) where
@@ -140,72 +102,115 @@ module _ (fs : Forms) (t : LTest) where
   unfolding definitions plan_definitions
   comparison_kept op x y p = sym (ap (λ z. kept_test fs (plain_ltest z)) p ∙ ap (kept_test fs) (low_Compare op x y))
 
--- ---- the next test fails, or passes
-pub test_fails :
-    {fs : Forms} {ts : List LTest} {i : ℕ} {t : LTest} {w : Bool} → TestStep fs ts i t → (v : Bool) → v ≡ false → v ≡ passes_by fs (plain_ltest t) →
-    holds_by fs (low_tests (map plain_ltest (drop i ts))) ≡ w → false ≡ w
-test_fails {fs} {ts} {i} {t} {w} k v n q h =
-    let rest = holds_by fs (low_tests (map plain_ltest (drop (i + 1) ts))) in
-    ap (λ u. u && rest) (sym n ∙ q) ∙ sym k.holds ∙ h
+-- ---- tests that pass, one after another
+-- the first tests pass: with those that are left they are the whole condition
+pub record PassedSoFar (fs : Forms) (ts : List LTest) (i : ℕ) : Type 0 where
+  pub small : CanCond (IsSmall form_limit) fs (cond_of (drop i ts))
+  pub held : holds_by fs (cond_of (drop i ts)) ≡ holds_by fs (cond_of ts)
+  pub missed : failed fs (cond_of (drop i ts)) ≡ failed fs (cond_of ts)
 
-pub test_passes :
-    {fs : Forms} {ts : List LTest} {i : ℕ} {t : LTest} → TestStep fs ts i t → (v : Bool) → v ≡ true → v ≡ passes_by fs (plain_ltest t) →
-    holds_by fs (low_tests (map plain_ltest (drop (i + 1) ts))) ≡ holds_by fs (low_tests (map plain_ltest (drop i ts)))
-test_passes {fs} {ts} {i} {t} k v n q =
-    let rest = holds_by fs (low_tests (map plain_ltest (drop (i + 1) ts))) in
-    sym (k.holds ∙ ap (λ u. u && rest) (sym q ∙ n))
-
--- ---- atoms behind others
--- the first tests of a condition pass, and their atoms stand behind others: they and what keeps the tests that are left keep it
-pub record PassedSoFar (fs : Forms) (xs ys : List Linear) (left whole : l.Cond) : Type 0 where
-  pub own : List Linear
-  pub behind : ys ≡ xs ++ own
-  pub kept : kept_from fs own left ≡ kept_cond fs whole
-
-pub none_passed : (fs : Forms) (xs : List Linear) (c : l.Cond) → PassedSoFar fs xs xs c c
-none_passed fs xs c = record { own = []; behind = sym (append-nil xs); kept = refl }
+pub none_passed : (fs : Forms) (ts : List LTest) → CanCond (IsSmall form_limit) fs (cond_of ts) → PassedSoFar fs ts 0
+none_passed fs ts h = record { small = h; held = refl; missed = refl }
 
 pub one_more_passed :
-    {fs : Forms} {ts : List LTest} {i : ℕ} {t : LTest} {xs ys zs : List Linear} {whole : l.Cond} → TestStep fs ts i t → (v : Bool) → v ≡ true →
-    v ≡ passes_by fs (plain_ltest t) → zs ≡ ys ++ kept_test fs (plain_ltest t) → PassedSoFar fs xs ys (low_tests (map plain_ltest (drop i ts))) whole →
-    PassedSoFar fs xs zs (low_tests (map plain_ltest (drop (i + 1) ts))) whole
-one_more_passed {fs} {ts} {i} {t} {xs} {ys} {zs} {whole} k v n q h s =
-    let more = kept_test fs (plain_ltest t) in
+    {fs : Forms} {ts : List LTest} {i : ℕ} {t : LTest} → TestStep fs ts i t → PassedSoFar fs ts i → (v : Bool) → v ≡ true → v ≡ passes_by fs (plain_ltest t) →
+    PassedSoFar fs ts (i + 1)
+one_more_passed {fs} {ts} {i} {t} k s v n q =
+    let more = cond_of (drop (i + 1) ts) in
+    let yes = sym n ∙ q in
     record {
-      own = s.own ++ more;
-      behind = h ∙ ap (λ l. l ++ more) s.behind ∙ append_assoc xs s.own more;
-      kept = k.pass s.own (sym n ∙ q) ∙ s.kept;
+      small = k.rest;
+      held = ap (λ u. u && holds_by fs more) yes ∙ sym k.held ∙ s.held;
+      missed = ap (λ u. cond u (failed fs more) (failed_test fs (plain_ltest t))) yes ∙ sym k.missed ∙ s.missed;
     }
 
-pub all_passed :
-    {fs : Forms} {xs ys : List Linear} {whole : l.Cond} (ts : List LTest) (i : ℕ) → length ts ≤ i →
-    PassedSoFar fs xs ys (low_tests (map plain_ltest (drop i ts))) whole → ys ≡ xs ++ kept_cond fs whole
-all_passed {fs} {xs} ts i h s = s.behind ∙ ap (λ l. xs ++ l) (tests_kept fs s.own ts i h ∙ s.kept)
+pub all_passed : {fs : Forms} {ts : List LTest} {i : ℕ} → length ts ≤ i → PassedSoFar fs ts i → holds_by fs (cond_of ts) ≡ true
+unfolding definitions syntax_definitions
+all_passed {fs} {ts} {i} h s = sym s.held ∙ ap (λ l. holds_by fs (low_tests l)) (drop_none plain_ltest ts i h)
 
--- where the others end
-pub others_within :
-    {fs : Forms} {left whole : l.Cond} (others before : List Atom) → PassedSoFar fs (map plain_atom others) (map plain_atom before) left whole →
-    length others ≤ length before
-others_within others before s =
-    let same : length (map plain_atom before) ≡ length (map plain_atom others) + length s.own = ap length s.behind ∙ length-append (map plain_atom others) s.own in
-    omega (arith, same, length-map others plain_atom, length-map before plain_atom)
+-- ---- the test that decides
+module _ {fs : Forms} {ts : List LTest} {i : ℕ} {t : LTest} (k : TestStep fs ts i t) (s : PassedSoFar fs ts i) (v : Bool) (n : v ≡ false)
+    (q : v ≡ passes_by fs (plain_ltest t)) where
+  no : false ≡ passes_by fs (plain_ltest t)
+  no = sym n ∙ q
 
--- of the atoms of a condition that fails those of the test that fails stay
-pub failed_stays :
-    {fs : Forms} {ts : List LTest} {i : ℕ} {t : LTest} {whole : l.Cond} (others before after out : List Atom) (m n : ℕ) → TestStep fs ts i t → (v : Bool) →
-    v ≡ false → v ≡ passes_by fs (plain_ltest t) → map plain_atom after ≡ map plain_atom before ++ kept_test fs (plain_ltest t) →
-    PassedSoFar fs (map plain_atom others) (map plain_atom before) (low_tests (map plain_ltest (drop i ts))) whole → m ≡ length others → n ≡ length before →
-    out ≡ take m after ++ drop n after → map plain_atom out ≡ map plain_atom others ++ kept_cond fs whole
-failed_stays {fs} {ts} {i} {t} {whole} others before after out m n k v w q h s pm pn e =
-    let xs = map plain_atom others in
-    let ys = map plain_atom before in
-    let more = kept_test fs (plain_ltest t) in
-    let front : take m (map plain_atom after) ≡ xs =
-    ap₂ take (pm ∙ sym (length-map others plain_atom)) (h ∙ ap (λ l. l ++ more) s.behind ∙ append_assoc xs s.own more) ∙ take-append_seam xs (s.own ++ more) in
-    let back : drop n (map plain_atom after) ≡ more = ap₂ drop (pn ∙ sym (length-map before plain_atom)) h ∙ drop-append_seam ys more in
-    ap (map plain_atom) e ∙ map-append plain_atom (take m after) (drop n after)
-    ∙ ap₂ ◌++◌ (sym (take-map plain_atom m after) ∙ front) (sym (drop-map plain_atom n after) ∙ back)
-    ∙ ap (λ l. xs ++ l) (k.fail s.own (sym w ∙ q) ∙ s.kept)
+  pub first_fails : false ≡ holds_by fs (cond_of ts)
+  first_fails = ap (λ u. u && holds_by fs (cond_of (drop (i + 1) ts))) no ∙ sym k.held ∙ s.held
+
+  first_kept : kept_test fs (plain_ltest t) ≡ kept_cond fs (cond_of ts)
+  first_kept =
+      sym (ap (λ u. cond u (passed_test fs (plain_ltest t)) (failed_test fs (plain_ltest t))) no)
+      ∙ ap (λ u. cond u (failed fs (cond_of (drop (i + 1) ts))) (failed_test fs (plain_ltest t))) no ∙ sym k.missed ∙ s.missed
+      ∙ ap (λ u. cond u (passed fs (cond_of ts)) (failed fs (cond_of ts))) first_fails
+
+  pub first_decides : i < length ts → t ≡ get_or ts i t → Decides fs ts i
+  first_decides h p = record {
+    within = h;
+    small = λ u e. subst (λ x. CanTest (IsSmall form_limit) fs (plain_ltest x)) (same u e) k.first;
+    holds = λ u e. ap (λ x. passes_by fs (plain_ltest x)) (sym (same u e)) ∙ sym no ∙ first_fails;
+    kept = λ u e. ap (λ x. kept_test fs (plain_ltest x)) (sym (same u e)) ∙ first_kept;
+  }
+    where
+      same : (u : LTest) → u ≡ get_or ts i u → t ≡ u
+      same u e = p ∙ get_or_default ts i t u h ∙ sym e
+
+pub only_decides : (fs : Forms) (ts : List LTest) → length ts ≡ 1 → CanCond (IsSmall form_limit) fs (cond_of ts) → Decides fs ts 0
+unfolding definitions plan_definitions syntax_definitions
+only_decides fs [] n h = absurd (omega (arith, n))
+only_decides fs (t ∷ u ∷ us) n h = absurd (omega (arith, n))
+only_decides fs (t ∷ []) n h = record {
+  within = omega arith;
+  small = λ u e. subst (λ x. CanTest (IsSmall form_limit) fs (plain_ltest x)) (sym e) h.0;
+  holds = λ u e. ap (λ x. passes_by fs (plain_ltest x)) e ∙ sym (alone_holds (passes_by fs (plain_ltest t)));
+  kept = λ u e.
+      ap (λ x. kept_test fs (plain_ltest x)) e ∙ alone_kept (passes_by fs (plain_ltest t)) (passed_test fs (plain_ltest t)) (failed_test fs (plain_ltest t));
+}
+  where
+    alone_holds : (v : Bool) → (v && true) ≡ v
+    alone_holds true = refl
+    alone_holds false = refl
+
+    alone_kept : (v : Bool) (xs ys : List Linear) → cond v xs ys ≡ cond (v && true) (xs ++ []) (cond v [] ys)
+    alone_kept true xs ys = sym (append-nil xs)
+    alone_kept false xs ys = refl
+
+-- ---- atoms behind others
+-- tests pass, as far as they were asked, and their atoms stand behind others
+pub record AskedSoFar (fs : Forms) (ts : List LTest) (i : ℕ) (others atoms : List Linear) : Type 0 where
+  pub small : CanCond (IsSmall form_limit) fs (cond_of (drop i ts))
+  pub held : holds_by fs (cond_of (drop i ts)) ≡ true
+  pub behind : atoms ++ passed fs (cond_of (drop i ts)) ≡ others ++ passed fs (cond_of ts)
+
+pub none_asked :
+    (fs : Forms) (ts : List LTest) (others : List Linear) → CanCond (IsSmall form_limit) fs (cond_of ts) → holds_by fs (cond_of ts) ≡ true → AskedSoFar fs ts 0 others others
+none_asked fs ts others h p = record { small = h; held = p; behind = refl }
+
+pub one_more_asked :
+    {fs : Forms} {ts : List LTest} {i : ℕ} {t : LTest} {xs ys zs : List Linear} → TestStep fs ts i t → AskedSoFar fs ts i xs ys →
+    zs ≡ ys ++ kept_test fs (plain_ltest t) → AskedSoFar fs ts (i + 1) xs zs
+one_more_asked {fs} {ts} {i} {t} {xs} {ys} {zs} k s h =
+    let more = cond_of (drop (i + 1) ts) in
+    let both = parts (passes_by fs (plain_ltest t)) (holds_by fs more) (sym k.held ∙ s.held) in
+    record {
+      small = k.rest;
+      held = both.1;
+      behind =
+          ap (λ l. l ++ passed fs more) (h ∙ ap (λ u. ys ++ cond u (passed_test fs (plain_ltest t)) (failed_test fs (plain_ltest t))) both.0)
+          ∙ append_assoc ys (passed_test fs (plain_ltest t)) (passed fs more) ∙ ap (λ l. ys ++ l) (sym k.asked) ∙ s.behind;
+    }
+  where
+    parts : (v w : Bool) → (v && w) ≡ true → (v ≡ true) × (w ≡ true)
+    parts true w e = (refl, e)
+    parts false w e = absurd (true≢false (sym e))
+
+pub all_asked : {fs : Forms} {ts : List LTest} {i : ℕ} {xs ys : List Linear} → length ts ≤ i → AskedSoFar fs ts i xs ys → ys ≡ xs ++ passed fs (cond_of ts)
+unfolding definitions syntax_definitions
+all_asked {fs} {ts} {i} {xs} {ys} h s =
+    sym (append-nil ys) ∙ sym (ap (λ l. ys ++ passed fs (low_tests l)) (drop_none plain_ltest ts i h)) ∙ s.behind
+
+-- of a condition that holds all tests' atoms keep it
+pub held_kept : (fs : Forms) (ts : List LTest) → holds_by fs (cond_of ts) ≡ true → passed fs (cond_of ts) ≡ kept_cond fs (cond_of ts)
+held_kept fs ts h = sym (ap (λ u. cond u (passed fs (cond_of ts)) (failed fs (cond_of ts))) h)
 
 -- ---- at a base
 pub atoms_at_base : (db xs : List ℤ) (fs : Forms) (c : l.Cond) → xs ≡ db → fs ≡ base_forms (values_of xs) → holds c (whole (values_of db)) ≡ true → kept_cond fs c ≡ true_cond (values_of db) c

@@ -1,6 +1,6 @@
 //! Conditions and their tests, where the forms of what stands at each place are known.
 
-ghost use Rattle.std.specs.Prelude.{◌≡◌, ◌≤◌, ◌++◌, length, take, drop, map, IfOk, OnOk};
+ghost use Rattle.std.specs.Prelude.{◌≡◌, ◌++◌, map, IfOk, OnOk};
 ghost use Rattle.homeo_syntax.specs.LowView.{low_tests, plain_ltest, plain_lcond};
 ghost use Rattle.homeo_meaning.specs.Small.{IsSmall};
 ghost use Rattle.homeo_plan.specs.FormSizes.{CanTest, CanCond};
@@ -11,6 +11,7 @@ ghost use Rattle.homeo_form.specs.Standing.{forms_of};
 ghost use Rattle.homeo_linear.specs.inner.Kept.{kept_test, kept_cond};
 
 use crate::comparisons::comparison;
+use crate::outcomes::deciding;
 use homeo_form::Standing;
 use homeo_plan::Atom;
 use homeo_syntax::{LCond, LTest, Memory};
@@ -71,25 +72,11 @@ fn tests(
     ensures atoms { OnOk result (map plain_atom atoms.new.items ≡
         map plain_atom atoms.old.items ++ kept_cond (forms_of standing.now) (low_tests (map plain_ltest ts.now))) }
 {
-    let begin = atoms.len();
+    if let Some(place) = deciding(standing, ts) {
+        return test(alloc, standing, &ts[place], atoms);
+    }
     for t in ts {
-        let next = atoms.len();
-        if !test(alloc, standing, t, atoms)? {
-            take_out(atoms, begin, next);
-            return Ok(false);
-        }
+        let _ = test(alloc, standing, t, atoms)?;
     }
     Ok(true)
-}
-
-/// Takes out the atoms from one place to another. Most often there are none.
-fn take_out(atoms: &mut Vec<Atom>, from: usize, to: usize)
-    requires order { from ≤ to }
-    requires within { to ≤ length atoms.old.items }
-    ensures { atoms.new.items ≡ take from atoms.old.items ++ drop to atoms.old.items }
-{
-    if from == to {
-        return;
-    }
-    atoms.drain(from..to);
 }

@@ -6,6 +6,7 @@ mod conditions;
 mod course;
 mod following;
 mod formulas;
+mod outcomes;
 mod residuals;
 
 pub use course::Follower;

@@ -1,11 +1,13 @@
 -- What keeps a comparison, test or condition as it is at a base.
-use Rattle.std.specs.Prelude.{cond, List, negsuc, int_lt}
+use Rattle.std.specs.Prelude.{◌≡◌, ℕ, ◌<◌, cond, List, map, length, get_or, negsuc, int_lt, Option, MatchOption, true}
 use Rattle.homeo_syntax.specs.declared.phrase.Compare.{Compare}
+use Rattle.homeo_syntax.specs.declared.low.LTest.{LTest}
 use Rattle.homeo_syntax.specs.Low.{Expr, Test, Cond}
+use Rattle.homeo_syntax.specs.LowView.{low_tests, plain_ltest}
 use Rattle.homeo_meaning.specs.Meaning.{compared}
 use Rattle.homeo_meaning.specs.Small.{IsSmall}
 use Rattle.homeo_plan.specs.Atoms.{true_comparison, false_comparison}
-use Rattle.homeo_plan.specs.FormSizes.{Numbers, CanForm}
+use Rattle.homeo_plan.specs.FormSizes.{Numbers, CanForm, CanTest}
 use Rattle.homeo_plan.specs.Linear.{Linear, Forms, add_forms, scale_form, form}
 use Rattle.homeo_plan.specs.Limit.{form_limit}
 use Rattle.homeo_follow.specs.Follow.{passes_by, holds_by, passed_test, failed_test, passed, failed}
@@ -34,3 +36,18 @@ kept_test f t = cond (passes_by f t) (passed_test f t) (failed_test f t)
 
 abbrev pub kept_cond : Forms → Cond → List Linear
 kept_cond f c = cond (holds_by f c) (passed f c) (failed f c)
+
+-- the condition of tests
+abbrev pub cond_of : List LTest → Cond
+cond_of ts = low_tests (map plain_ltest ts)
+
+-- what keeps the test at place n as it is keeps the whole condition so
+pub record Decides (f : Forms) (ts : List LTest) (n : ℕ) : Type 0 where
+  pub within : n < length ts
+  pub small : (t : LTest) → t ≡ get_or ts n t → CanTest (IsSmall form_limit) f (plain_ltest t)
+  pub holds : (t : LTest) → t ≡ get_or ts n t → passes_by f (plain_ltest t) ≡ holds_by f (cond_of ts)
+  pub kept : (t : LTest) → t ≡ get_or ts n t → kept_test f (plain_ltest t) ≡ kept_cond f (cond_of ts)
+
+-- a test decides, or all pass
+abbrev pub IsDeciding : Forms → List LTest → Option ℕ → Type 0
+IsDeciding f ts o = MatchOption o (holds_by f (cond_of ts) ≡ true) (Decides f ts)

@@ -1,11 +1,10 @@
 -- Each kind of test, and one more test of a condition.
-use Rattle.std.proofs.Common.{rules, ◌++◌, map, refl, ap, ◌∙◌, arith}
+use Rattle.std.proofs.Common.{rules, ◌++◌, map, sym, ap, ◌∙◌}
 use Rattle.std.proofs.lemmas.Result.{IfOk-weaker, on_ok_weaker}
-use Rattle.homeo_syntax.specs.LowView.{low_tests, plain_ltest}
 use Rattle.homeo_syntax.specs.declared.low.LTest.{the_lemmas}
 use Rattle.homeo_plan.specs.PlanView.{plain_atom}
 use Rattle.homeo_form.specs.Standing.{forms_of}
-use Rattle.homeo_linear.proofs.Keeping.{not_can, sides_can, true_passes, true_kept, not_passes, not_kept, comparison_passes, comparison_kept, test_step, test_fails, test_passes, tests_hold, none_passed, one_more_passed, all_passed, others_within, failed_stays}
+use Rattle.homeo_linear.proofs.Keeping.{not_can, sides_can, true_passes, true_kept, not_passes, not_kept, comparison_passes, comparison_kept, test_step, none_asked, one_more_asked, all_asked, held_kept}
 use Rattle.homeo_linear.proofs.conditions.+conditions.Goals as goal
 
 pub test-condition-requires : goal.test-condition-requires
@@ -46,44 +45,31 @@ test-returns-in-Compare-clause-atoms t c =
     c.comparison.ensures.atoms
 
 pub tests-test-requires : goal.tests-test-requires
-tests-test-requires t c =
+tests-test-requires t c = (search (rules, the_lemmas), c.in-Some.ensures.small _ c.index-ts-place.is)
+
+pub tests-returns-in-Some-clause-holds : goal.tests-returns-in-Some-clause-holds
+tests-returns-in-Some-clause-holds t c = IfOk-weaker c.test.result _ _ (λ b h. h ∙ c.in-Some.ensures.holds _ c.index-ts-place.is) c.test.ensures.holds
+
+pub tests-returns-in-Some-clause-atoms : goal.tests-returns-in-Some-clause-atoms
+tests-returns-in-Some-clause-atoms t c =
+    on_ok_weaker c.test.result (λ h. h ∙ ap (λ l. map plain_atom c.args.atoms.now.items ++ l) (c.in-Some.ensures.kept _ c.index-ts-place.is)) c.test.ensures.atoms
+
+pub tests-test-requires-in-loop-t : goal.tests-test-requires-in-loop-t
+tests-test-requires-in-loop-t t c =
     (search (rules, the_lemmas), (test_step c.args.ts.now c.loop-t.t-index c.t-item.result c.loop-t-test.true c.t-item.is c.loop-t.invariant.small).first)
 
 pub tests-loop-t-init : goal.tests-loop-t-init
-tests-loop-t-init t c = record {
-  small = c.requires;
-  holds = refl;
-  atoms = none_passed (forms_of c.args.standing.now) (map plain_atom c.args.atoms.now.items) (low_tests (map plain_ltest c.args.ts.now));
-}
-
-pub tests-take_out-requires-clause-order : goal.tests-take_out-requires-clause-order
-tests-take_out-requires-clause-order t c =
-    omega (arith, c.len-begin.ensures, c.len-next.ensures, others_within c.args.atoms.now.items c.loop-t.atoms.items c.loop-t.invariant.atoms)
-
-pub tests-returns-then-not-branch-clause-holds : goal.tests-returns-then-not-branch-clause-holds
-tests-returns-then-not-branch-clause-holds t c =
-    let k = test_step c.args.ts.now c.loop-t.t-index c.t-item.result c.loop-t-test.true c.t-item.is c.loop-t.invariant.small in
-    test_fails k c.in_ok-test.field-0 c.if-not-branch.true c.in_ok-test.ensures.holds c.loop-t.invariant.holds
-
-pub tests-returns-then-not-branch-clause-atoms : goal.tests-returns-then-not-branch-clause-atoms
-tests-returns-then-not-branch-clause-atoms t c =
-    let k = test_step c.args.ts.now c.loop-t.t-index c.t-item.result c.loop-t-test.true c.t-item.is c.loop-t.invariant.small in
-    failed_stays c.args.atoms.now.items c.loop-t.atoms.items c.test.new.atoms.items c.take_out.new.atoms.items c.len-begin.result c.len-next.result k
-    c.in_ok-test.field-0 c.if-not-branch.true c.in_ok-test.ensures.holds c.in_ok-test.ensures.atoms c.loop-t.invariant.atoms
-    (omega (arith, c.len-begin.ensures)) (omega (arith, c.len-next.ensures)) c.take_out.ensures
+tests-loop-t-init t c = none_asked (forms_of c.args.standing.now) c.args.ts.now _ c.requires c.in_default.ensures
 
 pub tests-loop-t-preserved : goal.tests-loop-t-preserved
 tests-loop-t-preserved t c =
-    let k = test_step c.args.ts.now c.loop-t.t-index c.t-item.result c.loop-t-test.true c.t-item.is c.loop-t.invariant.small in
-    record {
-      small = k.rest;
-      holds = test_passes k c.in_ok-test.field-0 c.if-not-branch.false c.in_ok-test.ensures.holds ∙ c.loop-t.invariant.holds;
-      atoms = one_more_passed k c.in_ok-test.field-0 c.if-not-branch.false c.in_ok-test.ensures.holds c.in_ok-test.ensures.atoms c.loop-t.invariant.atoms;
-    }
+    one_more_asked (test_step c.args.ts.now c.loop-t.t-index c.t-item.result c.loop-t-test.true c.t-item.is c.loop-t.invariant.small) c.loop-t.invariant
+    c.in_ok-test.ensures.atoms
 
 pub tests-returns-clause-holds : goal.tests-returns-clause-holds
-tests-returns-clause-holds t c =
-    tests_hold (forms_of c.args.standing.now) c.args.ts.now c.loop-t.t-index c.loop-t-test.false ∙ c.loop-t.invariant.holds
+tests-returns-clause-holds t c = sym c.in_default.ensures
 
 pub tests-returns-clause-atoms : goal.tests-returns-clause-atoms
-tests-returns-clause-atoms t c = all_passed c.args.ts.now c.loop-t.t-index c.loop-t-test.false c.loop-t.invariant.atoms
+tests-returns-clause-atoms t c =
+    all_asked c.loop-t-test.false c.loop-t.invariant
+    ∙ ap (λ l. map plain_atom c.args.atoms.now.items ++ l) (held_kept (forms_of c.args.standing.now) c.args.ts.now c.in_default.ensures)
