@@ -15,6 +15,10 @@ pub struct Argument {
 }
 
 /// Gives each parameter its argument, as far as there are both.
+///
+/// # Errors
+///
+/// `Memory` where memory is wanting.
 pub fn bind(alloc: Global, params: &[RangeDecl], values: &[i64]) -> Result<Vec<Argument>, Memory>
     ensures { IfOk result (λ bound.
         arguments_of (map (λ a. a.name) bound.items) (map (λ a. a.value) bound.items) ≡
@@ -55,6 +59,10 @@ pub fn argument_or(arguments: &[Argument], name: u32, other: i64) -> i64
 }
 
 /// The values of a call's arguments.
+///
+/// # Errors
+///
+/// `Memory` where memory is wanting.
 pub fn argument_values(alloc: Global, args: &[Number]) -> Result<Vec<i64>, Memory>
     ensures { IfOk result (λ values. values.items ≡ map (λ a. a.value) args.now) }
 {

@@ -74,6 +74,10 @@ impl Model for Declarations {
 
 impl Places {
     /// Looks the first place of each name up, from the last name to the first.
+    ///
+    /// # Errors
+    ///
+    /// `Memory` where memory is wanting.
     pub fn of(alloc: Global, names: Vec<u32>) -> Result<Places, Memory>
         ensures { IfOk result (λ p. p ≡ names.items) }
     {
@@ -88,6 +92,10 @@ impl Places {
     }
 
     /// Looks the first place of each object's name up.
+    ///
+    /// # Errors
+    ///
+    /// `Memory` where memory is wanting.
     pub fn of_objects(alloc: Global, objects: &[ObjectDecl]) -> Result<Places, Memory>
         ensures { IfOk result (λ p. p ≡ map (λ d. d.name.name) objects.now) }
     {

@@ -20,6 +20,10 @@ pub fn order(w: &Workload) -> &[Ident]
 }
 
 /// The places of the clients by their names.
+///
+/// # Errors
+///
+/// `Memory` when out of memory.
 #[tactic(auto, unfolding(homeo_syntax::specs::Key::definitions, crate::specs::Key::definitions))]
 pub fn client_places(alloc: Global, w: &Workload) -> Result<Places, Memory>
     ensures { IfOk result (λ p. p ≡ client_names (plain_workload w.now)) }
