@@ -13,6 +13,7 @@ use homeo_syntax::Client;
 /// How many sites there are, from 1 to 16.
 pub fn site_count(w: &Accepted) -> u32
     ensures count { result ≡ sites_of (plain_workload w.now) }
+    ensures some { 1 ≤ result }
     ensures few { result ≤ 16 }
 {
     natural(w.workload().sites.value)
