@@ -41,7 +41,15 @@ const SECOND_REPORT: &str =
 /// Frames, and what is answered to them.
 type Case = (&'static [&'static str], &'static [&'static str]);
 
-const CASES: [Case; 2] = [
+const CASES: [Case; 5] = [
+    // a head without a batch
+    (&[HEAD], &[]),
+    // it ends behind the newline of its last line
+    (&[HEAD, FIRST], &[FIRST_REPORT]),
+    (
+        &[HEAD, FIRST, ELSEWHERE],
+        &[FIRST_REPORT, "refused E9 at 170\n"],
+    ),
     // a batch begins where the last one ended
     (&[HEAD, FIRST, SECOND], &[FIRST_REPORT, SECOND_REPORT]),
     // a refused batch changes nothing
@@ -96,6 +104,23 @@ fn batches_are_answered_however_the_stream_is_cut(rt: HostRuntime) {
         for piece in [65_536, 1] {
             let given = answers(&rt, alloc, stream.as_str(), piece);
             assert_eq!(&rt; given.as_slice(), want.as_bytes(), "in pieces of {piece}");
+        }
+    }
+}
+
+#[test]
+fn batches_are_served_however_the_stream_is_cut(rt: HostRuntime) {
+    let alloc = rt.alloc();
+    for (frames, lines) in CASES {
+        let stream = concat(&rt, alloc, frames);
+        let want = concat(&rt, alloc, lines);
+        for piece in [65_536, 1] {
+            let given = Given {
+                read_piece: piece,
+                write_piece: piece,
+                ..plain(&["serve"], stream.as_str())
+            };
+            check(&rt, alloc, given, Status::Done, want.as_str(), "");
         }
     }
 }
