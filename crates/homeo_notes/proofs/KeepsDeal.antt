@@ -2,6 +2,7 @@
 use Rattle.std.proofs.Common.{◌≡◌, ◌≢◌, ℕ, ◌+◌, ◌<◌, ◌≤◌, Bool, true, false, not, cond, [], ◌∷◌, ◌++◌, length, set, get_or, Some, None, refl, sym, ap, ◌∙◌, subst, ⊎_elim, arith}
 use mathlib.Core.Option.{some}
 use Rattle.std.proofs.lemmas.Bool.Decides.{nat_tests}
+use Rattle.std.proofs.lemmas.Bool.{not-true}
 use lib.ListN.{get_elem?}
 use Rattle.atomic_table.specs.Table.{Splits}
 use Rattle.atomic_table.proofs.Lists.{at_longer, at_last}
@@ -17,10 +18,6 @@ use Rattle.homeo_notes.proofs.Views.{fits_set, owned_set}
 -- the lines that are dealt have the new seat for their owner
 abbrev moved : (ℕ → Bool) → (ℕ → ℕ) → ℕ → ℕ → ℕ
 moved p owner new i = cond (p i) new (owner i)
-
-not_true : (b : Bool) → not b ≡ true → b ≡ false
-not_true true e = absurd (cc (e))
-not_true false e = refl
 
 -- the marked lines, which the view owns, are split off
 pub deals : (lines by : ℕ) (v : View) → ((i : ℕ) → is_within v.first v.end i ≡ true → view_owns v i (or_empty (get_or v.owned i None))) → Splits (Kept lines) by v (stays v) (dealt v)
@@ -40,7 +37,7 @@ deals lines by v all s k at =
           (record {
             owns = λ i xs h. let both = cond_some (not (p i)) (get_or v.owned i None) xs (sym (get_or-pick None (λ n. not (p n)) 0 v.owned i ∙ zero_plus (λ n. cond (not (p n)) (get_or v.owned i None) None) i) ∙ h) in
                 let is = fit.owns i xs both.1 in
-                (ap (λ b. cond b new (k.owner i)) (not_true (p i) both.0) ∙ is.0, is.1);
+                (ap (λ b. cond b new (k.owner i)) (not-true (p i) both.0) ∙ is.0, is.1);
             seen = fit.seen;
             told = fit.told;
           }) j u was)

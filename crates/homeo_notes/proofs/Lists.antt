@@ -4,6 +4,7 @@ use Rattle.std.specs.declared.option.Option.{Option}
 use mathlib.Core.Option.{some, some-ne-none, some-injective}
 use lib.ListN.{get_elem?}
 use Rattle.std.proofs.lemmas.Bool.Decides.{nat_tests}
+use Rattle.homeo_lemmas.proofs.Bools.{cond_same}
 use Rattle.homeo_notes.specs.Lines.{Entries, put, pick, longer, longest, or_empty, all_or_empty}
 
 module _ {A : Type 0} where
@@ -22,10 +23,6 @@ module _ {A : Type 0} where
   get_or-put_other d (x ∷ xs) zero (suc j) a ne = refl
   get_or-put_other d (x ∷ xs) (suc i) zero a ne = refl
   get_or-put_other d (x ∷ xs) (suc i) (suc j) a ne = get_or-put_other d xs i j a (λ e. ne (ap suc e))
-
-  cond_same : (b : Bool) (d : A) → cond b d d ≡ d
-  cond_same true d = refl
-  cond_same false d = refl
 
   pub get_or-pick : (d : A) (p : ℕ → Bool) (n : ℕ) (xs : List A) (i : ℕ) → get_or (pick d p n xs) i d ≡ cond (p (n + i)) (get_or xs i d) d
   get_or-pick d p n [] i = sym (cond_same (p (n + i)) d)
