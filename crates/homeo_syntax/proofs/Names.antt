@@ -4,6 +4,7 @@ use Rattle.std.specs.Prelude.{◌||◌, not, if◌then◌else◌}
 use Rattle.std.specs.List.{list_any}
 use Rattle.std.specs.Str.{bytes_eq}
 use Rattle.std.proofs.lemmas.Slice.Eq.{bytes_eq-Decides}
+use Rattle.std.proofs.lemmas.Bool.{or_right}
 use Rattle.homeo_syntax.specs.Lexemes.{Lexeme, Name, Number, Fixed}
 use Rattle.homeo_syntax.specs.Tokens.{Scanned, with_name, with_lexeme, names_after, place_of}
 
@@ -11,13 +12,9 @@ use Rattle.homeo_syntax.specs.Tokens.{Scanned, with_name, with_lexeme, names_aft
 pub bytes_same : (w : List ℕ) → bytes_eq w w ≡ true
 bytes_same w = (bytes_eq-Decides w w).1 refl
 
-or_later : (b c : Bool) → c ≡ true → (b || c) ≡ true
-or_later true c h = refl
-or_later false c h = h
-
 any_last : (w : List ℕ) (names : List (List ℕ)) → list_any (bytes_eq w) (names ++ w ∷ []) ≡ true
 any_last w [] = ap (λ (b : Bool). b || false) (bytes_same w)
-any_last w (n ∷ names) = or_later (bytes_eq w n) _ (any_last w names)
+any_last w (n ∷ names) = or_right (bytes_eq w n) _ (any_last w names)
 
 or_more : (b c d : Bool) → (b || c) ≡ true → (c ≡ true → d ≡ true) → (b || d) ≡ true
 or_more true c d h k = refl

@@ -1,10 +1,10 @@
 -- The names of a text are spelled as names, and its numbers are short.
-use Rattle.std.proofs.Common.{◌≡◌, ◌<◌, ◌≤◌, ◌+◌, ◌-◌, ◌*◌, ◌^◌, ℕ, zero, suc, Bool, true, false, cond, List, [], ◌∷◌, length, map, refl, sym, ap, ap₂, subst, ◌∙◌, arith}
+use Rattle.std.proofs.Common.{◌≡◌, ◌<◌, ◌≤◌, ◌+◌, ◌-◌, ◌*◌, ◌^◌, ℕ, zero, suc, Bool, true, false, cond, List, [], ◌∷◌, length, map, refl, sym, ap, ap₂, subst, ◌∙◌, arith, lt_of_lt_of_le}
 use Rattle.std.specs.Prelude.{Option, Some, None, Result, Ok, Err, nat_lt, pos, not, if◌then◌else◌, ◌||◌, ◌&&◌, ◌==◌}
 use Rattle.std.specs.List.{list_all, take_while}
 use Rattle.std.specs.Result.{result_map_both}
 use Rattle.std.proofs.Math.Nat.{pow-succ', pow-le-pow_right, mul-le-mul_right}
-use Rattle.std.proofs.lemmas.Bool.{and_parts}
+use Rattle.std.proofs.lemmas.Bool.{and_parts, not-true}
 use Rattle.std.proofs.lemmas.List.Sums.{take_while-cons}
 use Rattle.homeo_syntax.specs.Lexemes.{Lexeme, Name, Number, Fixed, value_after, number_value, is_space, is_letter, is_digit, is_word, reserved, look_up, word_as, word_lexeme, number_lexeme, longest, symbol_lexeme, double_symbols, single_symbols, lexeme_of}
 use Rattle.homeo_syntax.specs.declared.token.Mark.{Mark}
@@ -27,7 +27,6 @@ AllSpelled v [] = Unit {0}
 AllSpelled v (t ∷ ts) = IsSpelled v t.lexeme × AllSpelled v ts
 
 -- ---- before the version is looked at, each word is as version 1 has it
-
 abbrev FoundSpelled : Option (Lexeme × ℕ) → Type 0
 FoundSpelled None = Unit {0}
 FoundSpelled (Some l) = IsSpelled First l.0
@@ -49,16 +48,12 @@ all_taken p (x ∷ xs) = ap (list_all p) (take_while-cons p x xs) ∙ more_taken
 abbrev is_earlier : Mark → Bool
 is_earlier m = not (is_later m)
 
-not_later : (b : Bool) → not b ≡ true → b ≡ false
-not_later true h = let no : ⊥ = cc in absurd no
-not_later false h = refl
-
 -- a mark that is looked up among such as every version has is one of these
 earlier : (marks : List Mark) (w : List ℕ) (m : Mark) → list_all is_earlier marks ≡ true → look_up marks w ≡ Some m → is_later m ≡ false
 earlier [] w m h e = let no : ⊥ = cc in absurd no
 earlier (x ∷ marks) w m h e =
     let parts = and_parts (is_earlier x) (list_all is_earlier marks) h in
-    found_first (bytes_eq w (mark_text x)) x (look_up marks w) m (not_later (is_later x) parts.0) (λ k. earlier marks w m parts.1 k) e
+    found_first (bytes_eq w (mark_text x)) x (look_up marks w) m (not-true (is_later x) parts.0) (λ k. earlier marks w m parts.1 k) e
   where
     found_first : (b : Bool) (x : Mark) (o : Option Mark) (m : Mark) → is_later x ≡ false → (o ≡ Some m → is_later m ≡ false) → (if b then Some x else o) ≡ Some m → is_later m ≡ false
     found_first true x o m h k e = let same : x ≡ m = cc in ap is_later (sym same) ∙ h
@@ -94,9 +89,6 @@ digit_below d h = grind arith
 regroup : (n p : ℕ) → n * (10 * p) ≡ n * 10 * p
 regroup n p = omega arith
 
-below_all : {a b c : ℕ} → a < b → b ≤ c → a < c
-below_all h k = omega arith
-
 value_below : (n : ℕ) (ds : List ℕ) → list_all is_digit ds ≡ true → value_after n ds < suc n * 10 ^ length ds
 value_below n [] h = omega arith
 value_below n (d ∷ ds) h =
@@ -107,7 +99,7 @@ value_below n (d ∷ ds) h =
     let product : suc (n * 10 + (d - 48)) * 10 ^ length ds ≤ suc n * 10 * 10 ^ length ds = mul-le-mul_right (10 ^ length ds) most in
     let power : 10 ^ suc (length ds) ≡ 10 * 10 ^ length ds = pow-succ' 10 (length ds) in
     let whole : suc n * 10 ^ suc (length ds) ≡ suc n * 10 * 10 ^ length ds = ap (λ (p : ℕ). suc n * p) power ∙ regroup (suc n) (10 ^ length ds) in
-    subst (λ (p : ℕ). value_after (n * 10 + (d - 48)) ds < p) (sym whole) (below_all below product)
+    subst (λ (p : ℕ). value_after (n * 10 + (d - 48)) ds < p) (sym whole) (lt_of_lt_of_le below product)
 
 number_found : (w : List ℕ) (c : Bool) → nat_lt 18 (length w) ≡ c → list_all is_digit w ≡ true
     → FoundSpelled (if c then None else Some (Number (pos (number_value w)), length w))
