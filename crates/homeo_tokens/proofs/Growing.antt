@@ -23,24 +23,12 @@ first_two (Fixed m) (Fixed n) p q = refl
 first_two (Name w) b p q = refl
 first_two (Number n) b p q = refl
 
-same_version : (a b : Lexeme) → version_from (lexeme_in (version_from a b) a) (lexeme_in (version_from a b) b) ≡ version_from a b
-same_version (Fixed m) (Number n) = refl
-same_version (Fixed m) (Name w) = refl
-same_version (Fixed m) (Fixed n) = refl
-same_version (Name w) b = refl
-same_version (Number n) b = refl
-
 same_kinds : (names : List (List ℕ)) (a b : Lexeme) → (if kinds_second (kind_in names (lexeme_in (version_from a b) a)) (kind_in names (lexeme_in (version_from a b) b)) then Second else First) ≡ version_from a b
 same_kinds names (Fixed m) (Number n) = refl
 same_kinds names (Fixed m) (Name w) = refl
 same_kinds names (Fixed m) (Fixed n) = refl
 same_kinds names (Name w) b = refl
 same_kinds names (Number n) b = refl
-
-pub version-kept : (ts : List Scanned) → version_of (in_version ts) ≡ version_of ts
-version-kept [] = refl
-version-kept (t ∷ []) = refl
-version-kept (t ∷ (u ∷ ts)) = same_version t.lexeme u.lexeme
 
 pub version-is : (names : List (List ℕ)) (ts : List Scanned) → version_by (tokens_in names (in_version ts)) ≡ version_of ts
 version-is names [] = refl

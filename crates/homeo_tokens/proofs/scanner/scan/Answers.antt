@@ -2,10 +2,11 @@
 use Rattle.std.proofs.Common.{◌≤◌, ◌+◌, [], ◌∷◌, ◌++◌, length, sym, ap, ◌∙◌, arith, rules, length-drop, drop}
 use Rattle.std.specs.Prelude.{Some, None}
 use Rattle.homeo_syntax.specs.Tokens.{scanned_from, unversioned, in_version, names_of}
+use Rattle.homeo_syntax.proofs.Spelling.{version_kept}
 use Rattle.homeo_tokens.specs.inner.Numbers.{version_by}
 use Rattle.homeo_tokens.specs.Views.{plain_lexeme}
 use Rattle.homeo_tokens.proofs.Front.{in_front_all, nothing_in_front}
-use Rattle.homeo_tokens.proofs.Growing.{as_scanned, version-is, version-kept}
+use Rattle.homeo_tokens.proofs.Growing.{as_scanned, version-is}
 use Rattle.homeo_tokens.proofs.Steps.{rest_of_text, lexeme_sized, space_step, token_step, no_step, end_step, front_push, front_none}
 use Rattle.homeo_tokens.proofs.scanner.scan.Goals as goal
 
@@ -75,7 +76,7 @@ returns-clause-tokens c =
     record {
       scanned = in_version read.front;
       lexemes = as_scanned c.args.text.now read.front all;
-      version = made.version ∙ ap version_by read.numbers.tokens ∙ version-is (names_of (in_version read.front)) read.front ∙ sym (version-kept read.front);
+      version = made.version ∙ ap version_by read.numbers.tokens ∙ version-is (names_of (in_version read.front)) read.front ∙ sym (version_kept read.front);
       names = made.names ∙ read.numbers.names;
       tokens = made.tokens ∙ read.numbers.tokens;
     }
