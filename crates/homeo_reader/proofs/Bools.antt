@@ -1,46 +1,15 @@
 -- Tests, and sets of classes.
 use Rattle.std.proofs.Common.{◌≡◌, ℕ, Bool, true, false, ◌||◌, ◌&&◌, not, List, [], ◌∷◌, ◌++◌, refl, ◌⊎◌, inl, inr, sym, subst}
-use Rattle.std.proofs.lemmas.Bool.{eqb-true}
+use Rattle.std.proofs.lemmas.Bool.{eqb-true, and_parts, or_left, or_right, or_cases}
 use Rattle.std.specs.Prelude.{◌==◌, if◌then◌else◌}
+use Rattle.homeo_lemmas.proofs.Bools.{never_both}
 use Rattle.homeo_syntax.specs.Grammar.{has}
 use Rattle.homeo_reader.specs.inner.Engine.{apart, within, where_empty}
-
-pub and_split : (a b : Bool) → (a && b) ≡ true → (a ≡ true) × (b ≡ true)
-and_split true true h = (refl, refl)
-and_split true false h = cc
-and_split false b h = cc
-
-pub and_join : (a b : Bool) → a ≡ true → b ≡ true → (a && b) ≡ true
-and_join true true h k = refl
-and_join true false h k = k
-and_join false b h k = h
-
-pub or_split : (a b : Bool) → (a || b) ≡ true → (a ≡ true) ⊎ (b ≡ true)
-or_split true b h = inl refl
-or_split false true h = inr refl
-or_split false false h = cc
-
-pub or_left : (a b : Bool) → a ≡ true → (a || b) ≡ true
-or_left true b h = refl
-or_left false b h = cc
-
-pub or_right : (a b : Bool) → b ≡ true → (a || b) ≡ true
-or_right true b h = refl
-or_right false true h = refl
-or_right false false h = cc
-
-pub not_true : (a : Bool) → not a ≡ true → a ≡ true → ⊥
-not_true true h k = cc
-not_true false h k = cc
-
-pub not_false : (a : Bool) → (a ≡ true → ⊥) → a ≡ false
-not_false true h = absurd (h refl)
-not_false false h = refl
 
 pub has_left : (xs ys : List ℕ) (n : ℕ) → has xs n ≡ true → has (xs ++ ys) n ≡ true
 has_left [] ys n h = cc
 has_left (x ∷ xs) ys n h =
-    elim (or_split (n == x) (has xs n) h) [ inl e ↦ or_left _ _ e | inr e ↦ or_right (n == x) _ (has_left xs ys n e) ]
+    elim (or_cases (n == x) (has xs n) h) [ inl e ↦ or_left _ _ e | inr e ↦ or_right (n == x) _ (has_left xs ys n e) ]
 
 pub has_right : (xs ys : List ℕ) (n : ℕ) → has ys n ≡ true → has (xs ++ ys) n ≡ true
 has_right [] ys n h = h
@@ -53,17 +22,17 @@ has_where false xs n e h = cc
 pub has_apart : (xs ys : List ℕ) (n : ℕ) → apart xs ys ≡ true → has xs n ≡ true → has ys n ≡ true → ⊥
 has_apart [] ys n a h k = cc
 has_apart (x ∷ xs) ys n a h k =
-    let s = and_split (not (has ys x)) (apart xs ys) a in
-    elim (or_split (n == x) (has xs n) h) [
-      | inl e ↦ not_true (has ys x) s.0 (subst (λ (m : ℕ). has ys m ≡ true) (eqb-true n x e) k)
+    let s = and_parts (not (has ys x)) (apart xs ys) a in
+    elim (or_cases (n == x) (has xs n) h) [
+      | inl e ↦ never_both (has ys x) s.0 (subst (λ (m : ℕ). has ys m ≡ true) (eqb-true n x e) k)
       | inr e ↦ has_apart xs ys n s.1 e k
     ]
 
 pub has_within : (xs ys : List ℕ) (n : ℕ) → within xs ys ≡ true → has xs n ≡ true → has ys n ≡ true
 has_within [] ys n w h = cc
 has_within (x ∷ xs) ys n w h =
-    let s = and_split (has ys x) (within xs ys) w in
-    elim (or_split (n == x) (has xs n) h) [
+    let s = and_parts (has ys x) (within xs ys) w in
+    elim (or_cases (n == x) (has xs n) h) [
       | inl e ↦ subst (λ (m : ℕ). has ys m ≡ true) (sym (eqb-true n x e)) s.0
       | inr e ↦ has_within xs ys n s.1 e
     ]
@@ -84,7 +53,3 @@ if_false false x y h = refl
 pub not_both : (a b c : Bool) → a ≡ false → ((a && b) || (false && c)) ≡ false
 not_both true b c h = cc
 not_both false b c h = refl
-
-pub neither : (a b : Bool) → a ≡ false → b ≡ false → (a || b) ≡ false
-neither true b h k = cc
-neither false b h k = k

@@ -1,7 +1,8 @@
 -- Commands, step by step.
-use Rattle.std.proofs.Common.{◌≡◌, ℕ, zero, suc, ◌-◌, ◌<◌, Bool, true, false, ◌&&◌, ◌||◌, List, [], ◌∷◌, ◌++◌, refl, ap, ◌∙◌, sym, arith, not}
+use Rattle.std.proofs.Common.{◌≡◌, ℕ, zero, suc, ◌-◌, ◌<◌, Bool, true, false, ◌&&◌, ◌||◌, List, [], ◌∷◌, ◌++◌, refl, ap, ◌∙◌, sym, arith, not, true≢false}
 use Rattle.std.specs.Prelude.{Ok, Err, nat_lt, if◌then◌else◌, ◌==◌}
-use Rattle.std.proofs.lemmas.Bool.{lt-ltb, eqb-true}
+use Rattle.std.proofs.lemmas.Bool.{lt-ltb, eqb-true, and_parts, and_from, false_from_ne_true}
+use Rattle.homeo_lemmas.proofs.Bools.{never_both}
 use Rattle.homeo_syntax.specs.Classes.{number_of, class_of}
 use Rattle.homeo_syntax.specs.declared.command.FieldValue.{FieldValue}
 use Rattle.homeo_syntax.specs.declared.phrase.Ident.{Ident}
@@ -21,14 +22,14 @@ use Rattle.homeo_syntax.specs.SourceView.{commands, plain_expr, plain_field}
 use Rattle.homeo_syntax.specs.Key.{definitions}
 use Rattle.homeo_reader.specs.inner.Commands.{if_read, foreach_read, insert_read, delete_read, update_read, abort_read, command_read, commands_read, next_command_read, next_command_do, block_read, block_do, setting_read, field_setting_rest, row_setting_rest, setting_by, setting_do, field_value_read, field_value_do, next_field_value_read, next_field_value_do, other_field_values_read, field_values_read, field_values_do, command_by, command_do}
 use Rattle.homeo_reader.specs.inner.Reading.{expr_read, cond_read, visit_read, mark_read, ident_read, if_marked, on_marked, with_front}
-use Rattle.homeo_reader.proofs.Bools.{if_true, and_split, and_join, not_true, not_false}
+use Rattle.homeo_reader.proofs.Bools.{if_true}
 use Rattle.homeo_reader.proofs.Flat.{read_then, reads, reads_part, flat_part, bind_same}
 use Rattle.homeo_reader.proofs.Words.{Known, Outcome, word_begins, empty_word}
 use Rattle.homeo_reader.proofs.Outcomes.{read_outcome}
 use Rattle.homeo_reader.proofs.Complete.{known_at}
 use Rattle.homeo_reader.proofs.Decided.{decided}
 use Rattle.homeo_reader.proofs.ExprSteps.{room_minus}
-use Rattle.homeo_reader.proofs.Lists.{opt_lead, exists_term, differ, marked}
+use Rattle.homeo_reader.proofs.Lists.{opt_lead, exists_term, marked}
 
 pub exists_command : (v : Version) (n : ℕ) → 0 < n → (calls_at rule n).exists (Command v) ≡ true
 unfolding calls_at
@@ -63,7 +64,7 @@ unfolding field_value_read field_value_do expr_read read_then
 field_value_reads room ts = reads_part (calls_at rule room) _ ts
 
 exists_field_value : (n : ℕ) → 0 < n → exists (calls_at rule n) field_value ≡ true
-exists_field_value n h = and_join _ _ (exists_term n h) refl
+exists_field_value n h = and_from _ _ (exists_term n h) refl
 
 pub next_field_value_reads : (room : ℕ) (ts : List Token) → 0 < room → next_field_value_read room ts ≡ next_field_value_do room ts
 unfolding next_field_value_read next_field_value_do field_value_read
@@ -184,13 +185,13 @@ pub stuck_at_once : {Call : Type 0} {Value : Call → Type 0} {X : Type 0} →
 stuck_at_once cl cs M known g ne ts f (Ok x) o = absurd (go o.word o.cut o.is)
   where
     go : (w : List Token) → ts ≡ w ++ x.1 → Spells M g x.0 w → ⊥
-    go [] e p = not_true (empty g) ne (empty_word cl cs M known g x.0 p)
-    go (t ∷ w) e p = differ (sym (word_begins cl cs M known g x.0 t w p) ∙ sym (ap (first_is (begins cs g)) e) ∙ f)
+    go [] e p = never_both (empty g) ne (empty_word cl cs M known g x.0 p)
+    go (t ∷ w) e p = true≢false (sym (word_begins cl cs M known g x.0 t w p) ∙ sym (ap (first_is (begins cs g)) e) ∙ f)
 stuck_at_once cl cs M known g ne ts f (Err rest) o = ap Err (sym (go o.word o.cut o.is))
   where
     go : (w : List Token) → ts ≡ w ++ rest → Spells M g o.value (w ++ o.more) → ts ≡ rest
     go [] e p = e
-    go (t ∷ w) e p = absurd (differ (sym (word_begins cl cs M known g o.value t (w ++ o.more) p) ∙ sym (ap (first_is (begins cs g)) e) ∙ f))
+    go (t ∷ w) e p = absurd (true≢false (sym (word_begins cl cs M known g o.value t (w ++ o.more) p) ∙ sym (ap (first_is (begins cs g)) e) ∙ f))
 
 -- A block: where no command begins, only its end may come.
 block_rest : (v : Version) (room : ℕ) (r : List Token) → Reading s.Commands
@@ -225,10 +226,10 @@ brace_begins : (v : Version) (room : ℕ) (ts r : List Token) (u : Unit {0}) →
     first_is ((calls_at rule room).begins (Command v)) ts ≡ false
 brace_begins v room ts r u e =
     let t = marked mark.CloseBrace ts r u e in
-    let c : class_of t.0.kind ≡ number_of mark.CloseBrace = one_class (class_of t.0.kind) (number_of mark.CloseBrace) (and_split _ true t.2).0 in
+    let c : class_of t.0.kind ≡ number_of mark.CloseBrace = one_class (class_of t.0.kind) (number_of mark.CloseBrace) (and_parts _ true t.2).0 in
     ap (first_is ((calls_at rule room).begins (Command v))) t.1
-    ∙ not_false ((calls_at rule room).begins (Command v) t.0.kind)
-    (λ b. differ (sym ((known_at classes rule decided room).starts (Command v) t.0.kind b) ∙ ap (has (classes.starts (Command v))) c))
+    ∙ false_from_ne_true ((calls_at rule room).begins (Command v) t.0.kind)
+    (λ b. true≢false (sym ((known_at classes rule decided room).starts (Command v) t.0.kind b) ∙ ap (has (classes.starts (Command v))) c))
 
 no_room : (v : Version) (ts : List Token) → first_is ((calls_at rule 0).begins (Command v)) ts ≡ false
 unfolding calls_at
@@ -253,8 +254,8 @@ block_inner : (v : Version) (room : ℕ) (r : List Token) (b : Bool) → first_i
     mark_read mark.CloseBrace r ≡ m →
     (if b then block_rest v room r else (m >>= λ d. Ok (s.NoCommand, d.1)))
     ≡ on_marked m (λ r. Ok (s.NoCommand, r)) (if nat_lt 0 room then block_rest v room r else Err r)
-block_inner v room r true f (Ok x) e = absurd (differ (sym f ∙ brace_begins v room r x.1 x.0 e))
-block_inner v zero r true f (Err x) e = absurd (differ (sym f ∙ no_room v r))
+block_inner v room r true f (Ok x) e = absurd (true≢false (sym f ∙ brace_begins v room r x.1 x.0 e))
+block_inner v zero r true f (Err x) e = absurd (true≢false (sym f ∙ no_room v r))
 block_inner v (suc n) r true f (Err x) e = sym (if_true (nat_lt 0 (suc n)) (block_rest v (suc n) r) (Err r) (lt-ltb 0 (suc n) (omega arith)))
 block_inner v room r false f (Ok x) e = refl
 block_inner v zero r false f (Err x) e = ap Err (mark_err mark.CloseBrace r x e)

@@ -1,11 +1,13 @@
 -- Each phrase is read whole, where what follows doesn't go on with it.
 use Rattle.std.proofs.Common.{◌≡◌, ℕ, zero, suc, ◌≤◌, Bool, true, false, ◌&&◌, not, List, [], ◌∷◌, ◌++◌, length, refl, inl, inr, sym, subst, ap, ◌∙◌, append_assoc, arith}
 use Rattle.std.specs.Prelude.{Ok, Err, if◌then◌else◌}
+use Rattle.std.proofs.lemmas.Bool.{and_parts, false_from_ne_true}
+use Rattle.homeo_lemmas.proofs.Bools.{never_both}
 use Rattle.homeo_syntax.specs.declared.token.Token.{Token}
 use Rattle.homeo_syntax.specs.Classes.{class_of}
 use Rattle.homeo_syntax.specs.Grammar.{Grammar, token, nothing, call, seq, alt, many, part, as_value, Repeats, Spells, Means}
 use Rattle.homeo_reader.specs.inner.Engine.{◌>>=◌, Calls, calls_at, empty, exists, begins, first_is, read_token, repeat, read, Classes, apart, within, starts, goes_on, decides, decides_call, where_empty}
-use Rattle.homeo_reader.proofs.Bools.{and_split, if_true, if_false, not_false, not_true, has_left, has_right, has_where, has_apart, has_within}
+use Rattle.homeo_reader.proofs.Bools.{if_true, if_false, has_left, has_right, has_where, has_apart, has_within}
 use Rattle.homeo_reader.proofs.Words.{Clear, Known, some_word, word_exists, empty_word, begun_exists, begun_starts, word_begins}
 use Rattle.homeo_reader.proofs.Outcomes.{read_outcome, repeat_ends, repeat_more, then_more, longer}
 
@@ -37,11 +39,11 @@ module _ {Call : Type 0} {Value : Call → Type 0} (cl : Classes Call) (cs : Cal
   -- where nothing of these classes comes, the grammar doesn't begin
   not_begun : {X : Type 0} → (g : Grammar Call Value X) (z : List Token) → Clear (starts cl g) z → first_is (begins cs g) z ≡ false
   not_begun g [] c = refl
-  not_begun g (t ∷ z) c = not_false (begins cs g t.kind) (λ h. c (begun_starts cl cs M known g t.kind h))
+  not_begun g (t ∷ z) c = false_from_ne_true (begins cs g t.kind) (λ h. c (begun_starts cl cs M known g t.kind h))
 
   begun_word : {X : Type 0} → (g : Grammar Call Value X) (a : X) (w z : List Token) → Spells M g a w → not (empty g) ≡ true →
       first_is (begins cs g) (w ++ z) ≡ true
-  begun_word g a [] z s ne = absurd (not_true (empty g) ne (empty_word cl cs M known g a s))
+  begun_word g a [] z s ne = absurd (never_both (empty g) ne (empty_word cl cs M known g a s))
   begun_word g a (t ∷ w) z s ne = word_begins cl cs M known g a t w s
 
   -- a word of the second doesn't begin the first
@@ -50,7 +52,7 @@ module _ {Call : Type 0} {Value : Call → Type 0} (cl : Classes Call) (cs : Cal
   other_word g h a w z s d c = not_begun g (w ++ z) (word_clear h (starts cl g) a w z s d c)
 
   not_empty_word : {X : Type 0} → (g : Grammar Call Value X) (a : X) (w : List Token) → Spells M g a w → not (empty g) ≡ true → w ≡ [] → ⊥
-  not_empty_word g a w s ne e = not_true (empty g) ne (empty_word cl cs M known g a (subst (Spells M g a) e s))
+  not_empty_word g a w s ne e = never_both (empty g) ne (empty_word cl cs M known g a (subst (Spells M g a) e s))
 
   many_complete : {X : Type 0} → (g : Grammar Call Value X) → not (empty g) ≡ true → apart (goes_on cl g) (starts cl g) ≡ true →
       ((a : X) (w z : List Token) → Spells M g a w → Clear (goes_on cl g) z → read cs g (w ++ z) ≡ Ok (a, z)) →
@@ -73,7 +75,7 @@ module _ {Call : Type 0} {Value : Call → Type 0} (cl : Classes Call) (cs : Cal
       after [] v r = subst (λ (x : List Token). Clear (goes_on cl g) (x ++ z)) (sym r) (clear_left (goes_on cl g) (starts cl g) z c)
       after (b ∷ others) v r =
           subst (Clear (goes_on cl g)) (sym (ap (λ (x : List Token). x ++ z) r.2 ∙ append_assoc r.0 r.1 z))
-          (word_clear g (goes_on cl g) b r.0 (r.1 ++ z) r.3 d (λ e. absurd (not_true (empty g) ne e)))
+          (word_clear g (goes_on cl g) b r.0 (r.1 ++ z) r.3 d (λ e. absurd (never_both (empty g) ne e)))
 
   -- each phrase is read whole
   pub read_complete : {X : Type 0} → (g : Grammar Call Value X) → decides cl g ≡ true → (a : X) (w z : List Token) → Spells M g a w → Clear (goes_on cl g) z →
@@ -84,17 +86,17 @@ module _ {Call : Type 0} {Value : Call → Type 0} (cl : Classes Call) (cs : Cal
   read_complete (nothing b) d a w z s c = ap (λ (x : List Token). Ok (b, x ++ z)) s.0 ∙ ap (λ x. Ok (x, z)) (sym s.1)
   read_complete (call k) d a w z s c = known.complete k a w z s c
   read_complete (seq g h) d a w z s c =
-      let ds = and_split (decides cl g && decides cl h) _ d in
-      let dd = and_split (decides cl g) (decides cl h) ds.0 in
+      let ds = and_parts (decides cl g && decides cl h) _ d in
+      let dd = and_parts (decides cl g) (decides cl h) ds.0 in
       let after : Clear (goes_on cl g) (s.1 ++ z) = word_clear h (goes_on cl g) a.1 s.1 z s.4 ds.1
       (λ e. clear_where (empty h) (goes_on cl g) z (clear_right (goes_on cl h) (where_empty (empty h) (goes_on cl g)) z c) e) in
       ap (read cs (seq g h)) (ap (λ (x : List Token). x ++ z) s.2 ∙ append_assoc s.0 s.1 z)
       ∙ ap (λ x. x >>= λ x. read cs h x.1 >>= λ y. Ok ((x.0, y.0), y.1)) (read_complete g dd.0 a.0 s.0 (s.1 ++ z) s.3 after)
       ∙ ap (λ x. x >>= λ y. Ok ((a.0, y.0), y.1)) (read_complete h dd.1 a.1 s.1 z s.4 (clear_left (goes_on cl h) (where_empty (empty h) (goes_on cl g)) z c))
   read_complete (alt g h) d a w z s c =
-      let ds = and_split (decides cl g && decides cl h) _ d in
-      let dd = and_split (decides cl g) (decides cl h) ds.0 in
-      let dn = and_split (not (empty g)) _ ds.1 in
+      let ds = and_parts (decides cl g && decides cl h) _ d in
+      let dd = and_parts (decides cl g) (decides cl h) ds.0 in
+      let dn = and_parts (not (empty g)) _ ds.1 in
       let cc' = clear_left (goes_on cl g ++ goes_on cl h) (where_empty (empty h) (starts cl g)) z c in
       elim s [
         | inl x ↦ if_true _ (read cs g (w ++ z)) _ (begun_word g a w z x dn.0) ∙ read_complete g dd.0 a w z x (clear_left (goes_on cl g) (goes_on cl h) z cc')
@@ -105,8 +107,8 @@ module _ {Call : Type 0} {Value : Call → Type 0} (cl : Classes Call) (cs : Cal
             ∙ read_complete h dd.1 a w z x (clear_right (goes_on cl g) (goes_on cl h) z cc')
       ]
   read_complete (many g) d a w z s c =
-      let ds = and_split (decides cl g) _ d in
-      let dn = and_split (not (empty g)) _ ds.1 in
+      let ds = and_parts (decides cl g) _ d in
+      let dn = and_parts (not (empty g)) _ ds.1 in
       many_complete g dn.0 dn.1 (λ b u y p q. read_complete g ds.0 b u y p q) a w z s c (length (w ++ z)) (omega arith)
   read_complete (part g) d a w z s c = read_complete g d a w z s c
   read_complete (as_value f g) d a w z s c =
@@ -115,16 +117,16 @@ module _ {Call : Type 0} {Value : Call → Type 0} (cl : Classes Call) (cs : Cal
 module _ {Call : Type 0} {Value : Call → Type 0} (cl : Classes Call) (rule : (c : Call) → Grammar Call Value (Value c))
     (decided : (c : Call) → decides_call cl c (rule c) ≡ true) where
   rule_decides : (c : Call) → decides cl (rule c) ≡ true
-  rule_decides c = (and_split (decides cl (rule c)) _ (and_split (decides cl (rule c) && not (empty (rule c))) _ (decided c)).0).0
+  rule_decides c = (and_parts (decides cl (rule c)) _ (and_parts (decides cl (rule c) && not (empty (rule c))) _ (decided c)).0).0
 
   rule_full : (c : Call) → not (empty (rule c)) ≡ true
-  rule_full c = (and_split (decides cl (rule c)) _ (and_split (decides cl (rule c) && not (empty (rule c))) _ (decided c)).0).1
+  rule_full c = (and_parts (decides cl (rule c)) _ (and_parts (decides cl (rule c) && not (empty (rule c))) _ (decided c)).0).1
 
   rule_starts : (c : Call) → within (starts cl (rule c)) (cl.starts c) ≡ true
-  rule_starts c = (and_split (within (starts cl (rule c)) (cl.starts c)) _ (and_split (decides cl (rule c) && not (empty (rule c))) _ (decided c)).1).0
+  rule_starts c = (and_parts (within (starts cl (rule c)) (cl.starts c)) _ (and_parts (decides cl (rule c) && not (empty (rule c))) _ (decided c)).1).0
 
   rule_goes_on : (c : Call) → within (goes_on cl (rule c)) (cl.goes_on c) ≡ true
-  rule_goes_on c = (and_split (within (starts cl (rule c)) (cl.starts c)) _ (and_split (decides cl (rule c) && not (empty (rule c))) _ (decided c)).1).1
+  rule_goes_on c = (and_parts (within (starts cl (rule c)) (cl.starts c)) _ (and_parts (decides cl (rule c) && not (empty (rule c))) _ (decided c)).1).1
 
   -- at each depth the calls are read as they mean
   pub known_at : (n : ℕ) → Known cl (calls_at rule n) (Means rule n)
@@ -142,7 +144,7 @@ module _ {Call : Type 0} {Value : Call → Type 0} (cl : Classes Call) (rule : (
   known_at (suc n) = record {
     some = λ c e. some_word cl (calls_at rule n) (Means rule n) (known_at n) (rule c) (rule_decides c) e;
     exists = λ c a w m. word_exists cl (calls_at rule n) (Means rule n) (known_at n) (rule c) a w m;
-    full = λ c a m. not_true (empty (rule c)) (rule_full c) (empty_word cl (calls_at rule n) (Means rule n) (known_at n) (rule c) a m);
+    full = λ c a m. never_both (empty (rule c)) (rule_full c) (empty_word cl (calls_at rule n) (Means rule n) (known_at n) (rule c) a m);
     begins = λ c a t w m. word_begins cl (calls_at rule n) (Means rule n) (known_at n) (rule c) a t w m;
     begun = λ c k b. begun_exists cl (calls_at rule n) (Means rule n) (known_at n) (rule c) k b;
     starts =

@@ -82,7 +82,7 @@ workload_ends v names a w ts t more p q =
     ∙ read_complete classes calls (Means rule limit) known (workload v names) (decided_whole v names) w (ts ++ t ∷ more) [] q (last_token v names []))
 
 -- ---- the bytes
-clean_beginning : (cut rest : List ℕ) → IsClean (cut ++ rest) → IsClean cut
+pub clean_beginning : (cut rest : List ℕ) → IsClean (cut ++ rest) → IsClean cut
 clean_beginning [] rest h = refl
 clean_beginning (b ∷ cut) rest h = go (is_good b) (list_all is_good (cut ++ rest)) h (clean_beginning cut rest)
   where

@@ -1,8 +1,8 @@
 -- Each identifier of a workload is the place of a name, and no site is negative.
 use Rattle.std.proofs.Common.{◌≡◌, ◌<◌, ℕ, zero, suc, ℤ, pos, negsuc, ◌≤ℤ◌, true, List, [], ◌∷◌, refl, rules as std_rules}
 use Rattle.homeo_syntax.specs.declared.workload.RangeDecl.{RangeDecl}
-use Rattle.homeo_reader.proofs.Bools.{and_split}
 use Rattle.std.specs.Prelude.{None}
+use Rattle.std.proofs.lemmas.Bool.{and_parts}
 use Rattle.homeo_syntax.specs.Key.{definitions}
 use Rattle.homeo_syntax.specs.declared.token.Mark.{Mark}
 use Rattle.homeo_syntax.specs.declared.token.Mark.TheVariants as mark
@@ -276,7 +276,7 @@ module _ (n : ℕ) (M : Meaning) (hyp : (c : Deep) → Sound M (λ t. Named n t.
   decl_kept = sound_part M F _ _ (sound_as M F _ _ _ (λ p. B p.name) (sound_seq M F _ _ B (λ u. Unit {0}) ident_kept (anything _)) (λ p h. h.0))
 
   number_kept : Sound M F rules.number (λ x. pos 0 ≤ℤ x.value)
-  number_kept = sound_token M F _ _ _ _ _ (λ t h f. natural_value (value_in t.kind) (and_split _ (is_natural t.kind) h).1)
+  number_kept = sound_token M F _ _ _ _ _ (λ t h f. natural_value (value_in t.kind) (and_parts _ (is_natural t.kind) h).1)
 
   relation_kept : Sound M F rules.relation (IsRelation B)
   relation_kept =

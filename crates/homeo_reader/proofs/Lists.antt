@@ -1,5 +1,5 @@
 -- Phrases after a mark, any number of times.
-use Rattle.std.proofs.Common.{◌≡◌, ℕ, zero, suc, ◌<◌, ◌≤◌, Bool, true, false, ◌||◌, ◌&&◌, List, [], ◌∷◌, ◌++◌, length, refl, ap, ◌∙◌, sym, subst, arith, append_assoc, not}
+use Rattle.std.proofs.Common.{◌≡◌, ℕ, zero, suc, ◌<◌, ◌≤◌, Bool, true, false, ◌||◌, ◌&&◌, List, [], ◌∷◌, ◌++◌, length, refl, ap, ◌∙◌, sym, subst, arith, append_assoc, not, true≢false}
 use Rattle.std.specs.Prelude.{Option, Some, None, option_map, Ok, Err, if◌then◌else◌, ◌==◌}
 use Rattle.homeo_syntax.specs.declared.token.Mark.{Mark}
 use Rattle.homeo_syntax.specs.declared.token.Kind.{Kind}
@@ -18,7 +18,7 @@ use Rattle.homeo_reader.specs.declared.parser.Fault.TheVariants as fault
 use Rattle.homeo_syntax.specs.declared.phrase.Expr.{Expr}
 use Rattle.homeo_reader.specs.inner.Reading.{expr_views}
 use Rattle.homeo_reader.specs.inner.Reading.{opt_of, opt_read, on_marked, if_marked, next_factor_read, next_factor_do, next_term_read, next_term_do, test_read, next_test_read, next_test_do, Gives, mark_read, offset_read, with_front, factor_read, term_read}
-use Rattle.homeo_reader.proofs.Bools.{and_split, not_true, if_true, if_false, or_left, and_join, not_both}
+use Rattle.homeo_reader.proofs.Bools.{if_true, if_false, not_both}
 use Rattle.homeo_reader.proofs.Words.{Outcome, Takes, begun_exists, empty_word}
 use Rattle.homeo_reader.proofs.Outcomes.{read_outcome, first_begins, longer}
 use Rattle.homeo_reader.proofs.Complete.{known_at}
@@ -26,7 +26,8 @@ use Rattle.homeo_reader.proofs.Decided.{decided}
 use Rattle.homeo_reader.proofs.Unfold.{many_ends, many_goes_on, many_stops, no_longer}
 use Rattle.homeo_reader.proofs.Flat.{bind_ok, bind_assoc}
 use Rattle.std.proofs.lemmas.List.{append-nil}
-use Rattle.std.proofs.lemmas.Bool.{eq-eqb}
+use Rattle.std.proofs.lemmas.Bool.{eq-eqb, and_parts, or_left, and_from}
+use Rattle.homeo_lemmas.proofs.Bools.{never_both}
 
 abbrev after : {A : Type 0} → Reading A → List Token
 after (Ok x) = x.1
@@ -68,7 +69,7 @@ module _ (cs : Calls Deep Tree) {X : Type 0} (m : Mark) (g : Rule X) (there : ex
   pub lead_begins : (ts r : List Token) (u : Unit {0}) → mark_read m ts ≡ Ok (u, r) → first_is (begins cs (lead m g)) ts ≡ true
   lead_begins ts r u e =
       let t = marked m ts r u e in
-      ap (first_is (begins cs (lead m g))) t.1 ∙ or_left _ _ (and_join _ _ t.2 there)
+      ap (first_is (begins cs (lead m g))) t.1 ∙ or_left _ _ (and_from _ _ t.2 there)
 
   pub lead_reads : (ts r : List Token) (u : Unit {0}) → mark_read m ts ≡ Ok (u, r) → read cs (lead m g) ts ≡ read cs g r
   unfolding read
@@ -135,7 +136,7 @@ leaves n g d x ts a r e =
     (read_outcome classes (calls_at rule n) (Means rule n) (known_at classes rule decided n) g d x ts) e
 
 pub exists_term : (n : ℕ) → 0 < n → exists (calls_at rule n) term ≡ true
-exists_term n h = and_join _ _ (exists_factor n h) refl
+exists_term n h = and_from _ _ (exists_factor n h) refl
 
 abbrev got : {X : Type 0} → Reading (Option X) → Reading X
 got (Ok (Some a, r)) = Ok (a, r)
@@ -147,14 +148,11 @@ is_none (Ok (None, r)) = true
 is_none (Ok (Some a, r)) = false
 is_none (Err r) = false
 
-pub differ : true ≡ false → ⊥
-differ e = cc
-
 pub opt_some : {X : Type 0} → (b : Bool) (x : Reading X) (ts : List Token) (a : X) (r : List Token) → opt_of b x ts ≡ Ok (Some a, r) →
     (b ≡ true) × (x ≡ Ok (a, r))
 opt_some true (Ok x) ts a r e = (refl, ap got e)
 opt_some true (Err x) ts a r e = let no : ⊥ = cc in absurd no
-opt_some false x ts a r e = absurd (differ (ap is_none e))
+opt_some false x ts a r e = absurd (true≢false (ap is_none e))
 
 pub opt_err : {X : Type 0} → (b : Bool) (x : Reading X) (ts r : List Token) → opt_of b x ts ≡ Err r → (b ≡ true) × (x ≡ Err r)
 opt_err true (Ok x) ts r e = let no : ⊥ = cc in absurd no
@@ -162,7 +160,7 @@ opt_err true (Err x) ts r e = (refl, ap got e)
 opt_err false x ts r e = let no : ⊥ = cc in absurd no
 
 pub opt_none : {X : Type 0} → (b : Bool) (x : Reading X) (ts r : List Token) → opt_of b x ts ≡ Ok (None, r) → (b ≡ false) × (ts ≡ r)
-opt_none true (Ok x) ts r e = absurd (differ (sym (ap is_none e)))
+opt_none true (Ok x) ts r e = absurd (true≢false (sym (ap is_none e)))
 opt_none true (Err x) ts r e = let no : ⊥ = cc in absurd no
 opt_none false x ts r e = (refl, ap after e)
 
@@ -185,11 +183,11 @@ module _ (n : ℕ) {X : Type 0} (g : Rule X) (d : decides classes (many g) ≡ t
       let b = opt_some _ _ ts a r e in
       let k = first_begins (begins (calls_at rule n) g) ts b.0 in
       let known = known_at classes rule decided n in
-      let ds = and_split (decides classes g) _ d in
+      let ds = and_parts (decides classes g) _ d in
       let t : Takes (Spells (Means rule n) g) (read (calls_at rule n) g) ts a r =
       subst (Outcome (Spells (Means rule n) g) (read (calls_at rule n) g) ts) b.1
       (read_outcome classes (calls_at rule n) (Means rule n) known g ds.0 (begun_exists classes (calls_at rule n) (Means rule n) known g k.0.kind k.3) ts) in
-      let ne : t.word ≡ [] → ⊥ = λ z. not_true (empty g) (and_split (not (empty g)) _ ds.1).0
+      let ne : t.word ≡ [] → ⊥ = λ z. never_both (empty g) (and_parts (not (empty g)) _ ds.1).0
       (empty_word classes (calls_at rule n) (Means rule n) known g a (subst (Spells (Means rule n) g a) z t.is)) in
       omega (arith, longer t.word r ts ne t.cut)
 
@@ -287,7 +285,7 @@ sum_of-more e [] h = absurd (h refl)
 sum_of-more e (f ∷ es) h = refl
 
 pub not_empty : {A : Type 0} → (n : ℕ) (items : List A) → n ≡ length items → false ≡ (n == 0) → length items ≡ 0 → ⊥
-not_empty n items e h z = let t = eq-eqb n 0 (omega arith) in differ (sym t ∙ sym h)
+not_empty n items e h z = let t = eq-eqb n 0 (omega arith) in true≢false (sym t ∙ sym h)
 
 abbrev pub star_factor : Rule s.Expr
 star_factor = lead mark.Star (call Factor)

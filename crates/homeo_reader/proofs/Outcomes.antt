@@ -2,11 +2,13 @@
 use Rattle.std.proofs.Common.{◌≡◌, ℕ, zero, suc, ◌+◌, ◌≤◌, Bool, true, false, ◌&&◌, not, List, [], ◌∷◌, ◌++◌, length, refl, inl, inr, sym, subst, ap, ◌∙◌, append_assoc, length-append, arith}
 use Rattle.std.proofs.lemmas.List.{append-nil}
 use Rattle.std.specs.Prelude.{Ok, Err, if◌then◌else◌}
+use Rattle.std.proofs.lemmas.Bool.{and_parts, or_cases}
+use Rattle.homeo_lemmas.proofs.Bools.{never_both}
 use Rattle.homeo_syntax.specs.declared.token.Kind.{Kind}
 use Rattle.homeo_syntax.specs.declared.token.Token.{Token}
 use Rattle.homeo_syntax.specs.Grammar.{Grammar, token, nothing, call, seq, alt, many, part, as_value, takes, Repeats, Spells, SameHead}
 use Rattle.homeo_reader.specs.inner.Engine.{Reading, ◌>>=◌, Calls, empty, exists, begins, first_is, read_token, repeat, read, Classes, decides}
-use Rattle.homeo_reader.proofs.Bools.{and_split, or_split, if_true, if_false, not_true}
+use Rattle.homeo_reader.proofs.Bools.{if_true, if_false}
 use Rattle.homeo_reader.proofs.Words.{Takes, Outcome, Known, some_word, empty_word, begun_exists}
 
 pub same_refl : (r : List Token) → SameHead r r
@@ -311,23 +313,23 @@ module _ {Call : Type 0} {Value : Call → Type 0} (cl : Classes Call) (cs : Cal
   read_outcome (nothing a) d e ts = record { word = []; cut = refl; is = (refl, refl); steady = λ z s. refl }
   read_outcome (call c) d e ts = known.outcome c ts e
   read_outcome (seq g h) d e ts =
-      let ds = and_split (decides cl g && decides cl h) _ d in
-      let dd = and_split (decides cl g) (decides cl h) ds.0 in
-      let ee = and_split (exists cs g) (exists cs h) e in
+      let ds = and_parts (decides cl g && decides cl h) _ d in
+      let dd = and_parts (decides cl g) (decides cl h) ds.0 in
+      let ee = and_parts (exists cs g) (exists cs h) e in
       seq_outcome (Spells M g) (Spells M h) (Spells M (seq g h)) (λ a b. (a, b)) (λ a b u v p q. (u, v, refl, p, q)) (read cs g) (read cs h) ts
       (some_word cl cs M known h dd.1 ee.1) (read cs g ts) (read_outcome g dd.0 ee.0 ts) (λ r. read_outcome h dd.1 ee.1 r)
   read_outcome (alt g h) d e ts =
-      let ds = and_split (decides cl g && decides cl h) _ d in
-      let dd = and_split (decides cl g) (decides cl h) ds.0 in
+      let ds = and_parts (decides cl g && decides cl h) _ d in
+      let dd = and_parts (decides cl g) (decides cl h) ds.0 in
       alt_outcome (Spells M g) (Spells M h) (Spells M (alt g h)) (λ a u p. inl p) (λ a u p. inr p) (begins cs g) (exists cs h) (read cs g) (read cs h) ts
       (λ f. let b = first_begins (begins cs g) ts f in read_outcome g dd.0 (begun_exists cl cs M known g b.0.kind b.3) ts)
       (λ x. read_outcome h dd.1 x ts)
-      (λ x. some_word cl cs M known g dd.0 (elim (or_split (exists cs g) (exists cs h) e) [ inl y ↦ y | inr y ↦ cc ]))
+      (λ x. some_word cl cs M known g dd.0 (elim (or_cases (exists cs g) (exists cs h) e) [ inl y ↦ y | inr y ↦ cc ]))
   read_outcome (many g) d e ts =
-      let ds = and_split (decides cl g) _ d in
-      let ne = and_split (not (empty g)) _ ds.1 in
+      let ds = and_parts (decides cl g) _ d in
+      let ne = and_parts (not (empty g)) _ ds.1 in
       outcome_from_all (Repeats (Spells M g)) (begins cs g) (read cs g) ts (repeat (begins cs g) (read cs g) (length ts) ts)
-      (repeat_outcome (Spells M g) (λ a p. not_true (empty g) ne.0 (empty_word cl cs M known g a p)) (begins cs g) (read cs g)
+      (repeat_outcome (Spells M g) (λ a p. never_both (empty g) ne.0 (empty_word cl cs M known g a p)) (begins cs g) (read cs g)
       (λ ts f. let b = first_begins (begins cs g) ts f in read_outcome g ds.0 (begun_exists cl cs M known g b.0.kind b.3) ts) (length ts) ts (omega arith))
   read_outcome (part g) d e ts = part_outcome (Spells M g) (Spells M (part g)) (λ a u p. p) (read cs g) ts (read cs g ts) (read_outcome g d e ts)
   read_outcome (as_value f g) d e ts =

@@ -1,5 +1,5 @@
 -- The names of a text are distinct, and spelled as names.
-use Rattle.std.proofs.Common.{◌≡◌, ◌≢◌, ◌<◌, ◌+◌, ℕ, zero, suc, Bool, true, false, List, [], ◌∷◌, ◌++◌, length, get_or, refl, sym, ap, subst, ◌∙◌, arith, inl, inr, length-append}
+use Rattle.std.proofs.Common.{◌≡◌, ◌≢◌, ◌<◌, ◌+◌, ℕ, zero, suc, Bool, true, false, List, [], ◌∷◌, ◌++◌, length, get_or, refl, sym, ap, subst, ◌∙◌, arith, inl, inr, length-append, true≢false}
 use Rattle.std.specs.Prelude.{Ok, if◌then◌else◌, ◌||◌, AllPairs}
 use Rattle.std.specs.List.{list_any}
 use Rattle.std.specs.Str.{bytes_eq}
@@ -43,12 +43,9 @@ spelled_after v (t ∷ ts) names h k = spelled_after v ts (with_lexeme names t.l
 abbrev Distinct : List (List ℕ) → Type 0
 Distinct names = AllPairs (λ a b. a ≢ b) names
 
-differ : true ≡ false → ⊥
-differ e = cc
-
 head_not : (w n : List ℕ) (b c : Bool) → bytes_eq w n ≡ b → (b || c) ≡ false → (n ≡ w → ⊥) × (c ≡ false)
-head_not w n true c e h = absurd (differ h)
-head_not w n false c e h = (λ z. differ (sym (bytes_same w) ∙ ap (bytes_eq w) (sym z) ∙ e), h)
+head_not w n true c e h = absurd (true≢false h)
+head_not w n false c e h = (λ z. true≢false (sym (bytes_same w) ∙ ap (bytes_eq w) (sym z) ∙ e), h)
 
 not_among : (w : List ℕ) (names : List (List ℕ)) → list_any (bytes_eq w) names ≡ false → (i : ℕ) (d : List ℕ) → i < length names → get_or names i d ≡ w → ⊥
 not_among w [] h i d k e = omega arith

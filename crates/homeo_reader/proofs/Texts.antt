@@ -1,7 +1,7 @@
 -- Texts with one beginning.
-use Rattle.std.proofs.Common.{◌≡◌, ◌∙◌, ℕ, ◌+◌, ◌≤◌, ◌==◌, Bool, true, false, ◌&&◌, ◌||◌, cond, List, [], ◌∷◌, ◌++◌, length, take, drop, map, refl, sym, ap, ap₂, subst, arith, inl, inr, length-append}
+use Rattle.std.proofs.Common.{◌≡◌, ◌∙◌, ℕ, ◌+◌, ◌≤◌, ◌==◌, Bool, true, false, ◌||◌, cond, List, [], ◌∷◌, ◌++◌, length, take, drop, map, refl, sym, ap, ap₂, subst, arith, inl, inr, length-append}
 use Rattle.std.proofs.lemmas.List.{append-nil, map-append, length-map, take-append-drop}
-use Rattle.std.proofs.lemmas.Bool.{eqb-true}
+use Rattle.std.proofs.lemmas.Bool.{eqb-true, and_parts}
 use Rattle.std.specs.Prelude.{Result, Ok, Err, if◌then◌else◌, nat_eq, codes}
 use Rattle.std.specs.Cmp.Lexicographic.{same_text}
 use Rattle.std.specs.List.{take_while, list_all, starts_with}
@@ -21,10 +21,6 @@ use Rattle.homeo_reader.proofs.Declared.{declarations_stand, three_tokens}
 use Rattle.homeo_reader.proofs.Scans.{and_then, scan_line, scan_lines}
 
 -- ---- the line `end`
-both : (a b : Bool) → (a && b) ≡ true → (a ≡ true) × (b ≡ true)
-both true b h = (refl, h)
-both false b h = cc
-
 blank_space : (b : ℕ) → is_blank b ≡ true → is_space b ≡ true
 blank_space b h = go (b == 32) (b == 9) (b == 13) (b == 10) h
   where
@@ -47,14 +43,14 @@ blanks_scanned : (rest : List ℕ) (at : ℕ) → list_all is_blank rest ≡ tru
 unfolding scanned_from
 blanks_scanned [] at h = refl
 blanks_scanned (b ∷ rest) at h =
-    let two = both (is_blank b) (list_all is_blank rest) h in
+    let two = and_parts (is_blank b) (list_all is_blank rest) h in
     ap (λ v. if v then scanned_from 0 (at + 1) rest else found at (lexeme_of (b ∷ rest)) (λ more. scanned_from more (at + 1) rest)) (blank_space b two.0)
     ∙ blanks_scanned rest (at + 1) two.1
 
 run_blanks : (rest : List ℕ) → list_all is_blank rest ≡ true → take_while is_word rest ≡ []
 run_blanks [] h = refl
 run_blanks (b ∷ rest) h =
-    take_while-cons is_word b rest ∙ ap (λ v. cond v (b ∷ take_while is_word rest) []) (blank_no_word b (both (is_blank b) (list_all is_blank rest) h).0)
+    take_while-cons is_word b rest ∙ ap (λ v. cond v (b ∷ take_while is_word rest) []) (blank_no_word b (and_parts (is_blank b) (list_all is_blank rest) h).0)
 
 run_end : (rest : List ℕ) → list_all is_blank rest ≡ true → take_while is_word (101 ∷ 110 ∷ 100 ∷ rest) ≡ 101 ∷ 110 ∷ 100 ∷ []
 run_end rest h =
@@ -75,7 +71,7 @@ record EndWord (line : List ℕ) : Type 0 where
 
 end_word : (line : List ℕ) → is_end_word line ≡ true → EndWord line
 end_word line h =
-    let k = both (starts_with nat_eq line (codes "end")) (list_all is_blank (drop 3 line)) h in
+    let k = and_parts (starts_with nat_eq line (codes "end")) (list_all is_blank (drop 3 line)) h in
     record {
       rest = drop 3 line;
       are = sym (take-append-drop 3 line) ∙ ap (λ l. l ++ drop 3 line) (sym (same_text (codes "end") (take 3 line) (sym k.0)));
@@ -121,7 +117,7 @@ ends_class v names t (inl e) = inl (ap (λ l. class_of (kind_in names (lexeme_in
 ends_class v names t (inr (inl e)) = inr (inl (ap (λ l. class_of (kind_in names (lexeme_in v l))) e))
 ends_class v names t (inr (inr e)) = inr (inr (ap (λ l. class_of (kind_in names (lexeme_in v l))) e))
 
-nothing_more : (ts : List Scanned) (at : ℕ) → and_then (Ok ts) (scanned_from 0 at []) ≡ Ok ts
+pub nothing_more : (ts : List Scanned) (at : ℕ) → and_then (Ok ts) (scanned_from 0 at []) ≡ Ok ts
 unfolding scanned_from
 nothing_more ts at = ap Ok (append-nil ts)
 

@@ -1,11 +1,12 @@
 -- A repetition is one phrase and then the repetition.
 use Rattle.std.proofs.Common.{◌≡◌, ℕ, ◌≤◌, Bool, true, false, List, [], ◌∷◌, length, sym, subst, ap, ◌∙◌, arith, length-append, not}
 use Rattle.std.specs.Prelude.{Ok, Err}
+use Rattle.std.proofs.lemmas.Bool.{and_parts}
+use Rattle.homeo_lemmas.proofs.Bools.{never_both}
 use Rattle.homeo_syntax.specs.declared.token.Kind.{Kind}
 use Rattle.homeo_syntax.specs.declared.token.Token.{Token}
 use Rattle.homeo_syntax.specs.Grammar.{Grammar, many, Spells, Repeats}
 use Rattle.homeo_reader.specs.inner.Engine.{Reading, ◌>>=◌, Calls, empty, begins, first_is, read, repeat, Classes, decides}
-use Rattle.homeo_reader.proofs.Bools.{and_split, not_true}
 use Rattle.homeo_reader.proofs.Words.{Known, Outcome, Takes, begun_exists, empty_word}
 use Rattle.homeo_reader.proofs.Outcomes.{same_refl, first_begins, repeat_outcome, repeat_more, repeat_ends, then_more, OutcomeAll, read_outcome, longer}
 
@@ -27,14 +28,14 @@ module _ {Call : Type 0} {Value : Call → Type 0} (cl : Classes Call) (cs : Cal
     (known : Known cl cs M) {X : Type 0} (g : Grammar Call Value X) (d : decides cl (many g) ≡ true) where
   each : (ts : List Token) → first_is (begins cs g) ts ≡ true → Outcome (Spells M g) (read cs g) ts (read cs g ts)
   each ts f =
-      let ds = and_split (decides cl g) _ d in
+      let ds = and_parts (decides cl g) _ d in
       let b = first_begins (begins cs g) ts f in
       read_outcome cl cs M known g ds.0 (begun_exists cl cs M known g b.0.kind b.3) ts
 
   full : (a : X) → Spells M g a [] → ⊥
   full a p =
-      let ds = and_split (decides cl g) _ d in
-      not_true (empty g) (and_split (not (empty g)) _ ds.1).0 (empty_word cl cs M known g a p)
+      let ds = and_parts (decides cl g) _ d in
+      never_both (empty g) (and_parts (not (empty g)) _ ds.1).0 (empty_word cl cs M known g a p)
 
   -- enough turns are enough
   enough : (m : ℕ) (ts : List Token) → length ts ≤ m → repeat (begins cs g) (read cs g) m ts ≡ read cs (many g) ts

@@ -74,7 +74,7 @@ unread text r w (inr (inr f)) p =
     no_phrase (IsWorkload (version_of f.scanned) (names_of f.scanned)) (tokens_in (names_of f.scanned) f.scanned) f.fault f.stuck w
     (subst (λ (x : List Scanned). IsWorkload (version_of x) (names_of x) w (tokens_in (names_of x) x)) e p.spells)
 
-same_parts : (r q : Refusal) → r.code ≡ q.code → r.offset ≡ q.offset → r ≡ q
+pub same_parts : (r q : Refusal) → r.code ≡ q.code → r.offset ≡ q.offset → r ≡ q
 same_parts r q c o =
     ap (λ (n : ℕ). record { code = n; offset = r.offset }) c ∙ ap (λ (n : ℕ). record { code = q.code; offset = n }) o
 

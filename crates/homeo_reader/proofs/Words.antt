@@ -1,12 +1,13 @@
 -- What is true of the words of every grammar.
 use Rattle.std.proofs.Common.{◌≡◌, ℕ, Bool, true, ◌||◌, ◌&&◌, List, [], ◌∷◌, ◌++◌, refl, inl, inr, sym, subst}
 use Rattle.std.specs.Prelude.{Ok, Err}
+use Rattle.std.proofs.lemmas.Bool.{and_parts, and_from, or_cases, or_left, or_right}
 use Rattle.homeo_syntax.specs.declared.token.Kind.{Kind}
 use Rattle.homeo_syntax.specs.declared.token.Token.{Token}
 use Rattle.homeo_syntax.specs.Classes.{class_of}
 use Rattle.homeo_syntax.specs.Grammar.{Grammar, token, nothing, call, seq, alt, many, part, as_value, takes, Repeats, Spells, has, SameHead}
 use Rattle.homeo_reader.specs.inner.Engine.{Reading, Calls, empty, exists, begins, Classes, starts, decides, where_empty}
-use Rattle.homeo_reader.proofs.Bools.{and_split, and_join, or_split, or_left, or_right, has_left, has_right, has_where}
+use Rattle.homeo_reader.proofs.Bools.{has_left, has_right, has_where}
 
 -- no token of these classes comes first
 abbrev pub Clear : List ℕ → List Token → Type 0
@@ -52,10 +53,10 @@ nil_cut (x ∷ u) v h = cc
 begin_seq : (bg eh eg bh : Bool) (P Q : List Token → Type 0) (t : Token) (w u v : List Token) → t ∷ w ≡ u ++ v → P u → Q v →
     ((u : List Token) → P (t ∷ u) → bg ≡ true) → (P [] → eg ≡ true) → ((v : List Token) → Q (t ∷ v) → bh ≡ true) → ((v : List Token) → Q v → eh ≡ true) →
     ((bg && eh) || (eg && bh)) ≡ true
-begin_seq bg eh eg bh P Q t w [] v e p q hb he hb' hx = or_right (bg && eh) _ (and_join _ _ (he p) (hb' w (subst Q (sym e) q)))
+begin_seq bg eh eg bh P Q t w [] v e p q hb he hb' hx = or_right (bg && eh) _ (and_from _ _ (he p) (hb' w (subst Q (sym e) q)))
 begin_seq bg eh eg bh P Q t w (x ∷ u) v e p q hb he hb' hx =
     let same : x ≡ t = cc in
-    or_left _ _ (and_join _ _ (hb u (subst (λ (y : Token). P (y ∷ u)) same p)) (hx v q))
+    or_left _ _ (and_from _ _ (hb u (subst (λ (y : Token). P (y ∷ u)) same p)) (hx v q))
 
 begin_many : {A : Type 0} → (P : A → List Token → Type 0) (b : Bool) (t : Token) → ((a : A) (u : List Token) → P a (t ∷ u) → b ≡ true) →
     (all : List A) (w : List Token) → Repeats P all (t ∷ w) → b ≡ true
@@ -75,16 +76,16 @@ module _ {Call : Type 0} {Value : Call → Type 0} (cl : Classes Call) (cs : Cal
   some_word (nothing a) d e = (a, [], (refl, refl))
   some_word (call c) d e = known.some c e
   some_word (seq g h) d e =
-      let ds = and_split (decides cl g && decides cl h) _ d in
-      let dd = and_split (decides cl g) (decides cl h) ds.0 in
-      let ee = and_split (exists cs g) (exists cs h) e in
+      let ds = and_parts (decides cl g && decides cl h) _ d in
+      let dd = and_parts (decides cl g) (decides cl h) ds.0 in
+      let ee = and_parts (exists cs g) (exists cs h) e in
       let l = some_word g dd.0 ee.0 in
       let r = some_word h dd.1 ee.1 in
       ((l.0, r.0), l.1 ++ r.1, (l.1, r.1, refl, l.2, r.2))
   some_word (alt g h) d e =
-      let ds = and_split (decides cl g && decides cl h) _ d in
-      let dd = and_split (decides cl g) (decides cl h) ds.0 in
-      elim (or_split (exists cs g) (exists cs h) e) [
+      let ds = and_parts (decides cl g && decides cl h) _ d in
+      let dd = and_parts (decides cl g) (decides cl h) ds.0 in
+      elim (or_cases (exists cs g) (exists cs h) e) [
         | inl x ↦ (let l = some_word g dd.0 x in (l.0, l.1, inl l.2))
         | inr x ↦ (let l = some_word h dd.1 x in (l.0, l.1, inr l.2))
       ]
@@ -96,7 +97,7 @@ module _ {Call : Type 0} {Value : Call → Type 0} (cl : Classes Call) (cs : Cal
   word_exists (token classes test value sample) a w s = refl
   word_exists (nothing b) a w s = refl
   word_exists (call c) a w s = known.exists c a w s
-  word_exists (seq g h) a w s = and_join _ _ (word_exists g a.0 s.0 s.3) (word_exists h a.1 s.1 s.4)
+  word_exists (seq g h) a w s = and_from _ _ (word_exists g a.0 s.0 s.3) (word_exists h a.1 s.1 s.4)
   word_exists (alt g h) a w s = elim s [ inl x ↦ or_left _ _ (word_exists g a w x) | inr x ↦ or_right (exists cs g) _ (word_exists h a w x) ]
   word_exists (many g) a w s = refl
   word_exists (part g) a w s = word_exists g a w s
@@ -108,7 +109,7 @@ module _ {Call : Type 0} {Value : Call → Type 0} (cl : Classes Call) (cs : Cal
   empty_word (call c) a s = absurd (known.full c a s)
   empty_word (seq g h) a s =
       let n = nil_cut s.0 s.1 s.2 in
-      and_join _ _ (empty_word g a.0 (subst (Spells M g a.0) n.0 s.3)) (empty_word h a.1 (subst (Spells M h a.1) n.1 s.4))
+      and_from _ _ (empty_word g a.0 (subst (Spells M g a.0) n.0 s.3)) (empty_word h a.1 (subst (Spells M h a.1) n.1 s.4))
   empty_word (alt g h) a s = elim s [ inl x ↦ or_left _ _ (empty_word g a x) | inr x ↦ or_right (empty g) _ (empty_word h a x) ]
   empty_word (many g) a s = refl
   empty_word (part g) a s = empty_word g a s
@@ -118,9 +119,9 @@ module _ {Call : Type 0} {Value : Call → Type 0} (cl : Classes Call) (cs : Cal
   empty_exists (token classes test value sample) e = refl
   empty_exists (nothing a) e = refl
   empty_exists (call c) e = cc
-  empty_exists (seq g h) e = let ee = and_split (empty g) (empty h) e in and_join _ _ (empty_exists g ee.0) (empty_exists h ee.1)
+  empty_exists (seq g h) e = let ee = and_parts (empty g) (empty h) e in and_from _ _ (empty_exists g ee.0) (empty_exists h ee.1)
   empty_exists (alt g h) e =
-      elim (or_split (empty g) (empty h) e) [ inl x ↦ or_left _ _ (empty_exists g x) | inr x ↦ or_right (exists cs g) _ (empty_exists h x) ]
+      elim (or_cases (empty g) (empty h) e) [ inl x ↦ or_left _ _ (empty_exists g x) | inr x ↦ or_right (exists cs g) _ (empty_exists h x) ]
   empty_exists (many g) e = refl
   empty_exists (part g) e = empty_exists g e
   empty_exists (as_value f g) e = empty_exists g e
@@ -130,29 +131,29 @@ module _ {Call : Type 0} {Value : Call → Type 0} (cl : Classes Call) (cs : Cal
   begun_exists (nothing a) k b = refl
   begun_exists (call c) k b = known.begun c k b
   begun_exists (seq g h) k b =
-      elim (or_split (begins cs g k && exists cs h) (empty g && begins cs h k) b) [
-        | inl x ↦ (let s = and_split (begins cs g k) (exists cs h) x in and_join _ _ (begun_exists g k s.0) s.1)
-        | inr x ↦ (let s = and_split (empty g) (begins cs h k) x in and_join _ _ (empty_exists g s.0) (begun_exists h k s.1))
+      elim (or_cases (begins cs g k && exists cs h) (empty g && begins cs h k) b) [
+        | inl x ↦ (let s = and_parts (begins cs g k) (exists cs h) x in and_from _ _ (begun_exists g k s.0) s.1)
+        | inr x ↦ (let s = and_parts (empty g) (begins cs h k) x in and_from _ _ (empty_exists g s.0) (begun_exists h k s.1))
       ]
   begun_exists (alt g h) k b =
-      elim (or_split (begins cs g k) (begins cs h k) b) [ inl x ↦ or_left _ _ (begun_exists g k x) | inr x ↦ or_right (exists cs g) _ (begun_exists h k x) ]
+      elim (or_cases (begins cs g k) (begins cs h k) b) [ inl x ↦ or_left _ _ (begun_exists g k x) | inr x ↦ or_right (exists cs g) _ (begun_exists h k x) ]
   begun_exists (many g) k b = refl
   begun_exists (part g) k b = begun_exists g k b
   begun_exists (as_value f g) k b = begun_exists g k b
 
   pub begun_starts : {X : Type 0} → (g : Grammar Call Value X) (k : Kind) → begins cs g k ≡ true → has (starts cl g) (class_of k) ≡ true
-  begun_starts (token classes test value sample) k b = (and_split (has classes (class_of k)) (test k) b).0
+  begun_starts (token classes test value sample) k b = (and_parts (has classes (class_of k)) (test k) b).0
   begun_starts (nothing a) k b = cc
   begun_starts (call c) k b = known.starts c k b
   begun_starts (seq g h) k b =
-      elim (or_split (begins cs g k && exists cs h) (empty g && begins cs h k) b) [
-        | inl x ↦ (let s = and_split (begins cs g k) (exists cs h) x in has_left (starts cl g) (where_empty (empty g) (starts cl h)) (class_of k)
+      elim (or_cases (begins cs g k && exists cs h) (empty g && begins cs h k) b) [
+        | inl x ↦ (let s = and_parts (begins cs g k) (exists cs h) x in has_left (starts cl g) (where_empty (empty g) (starts cl h)) (class_of k)
             (begun_starts g k s.0))
-        | inr x ↦ (let s = and_split (empty g) (begins cs h k) x in has_right (starts cl g) (where_empty (empty g) (starts cl h)) (class_of k)
+        | inr x ↦ (let s = and_parts (empty g) (begins cs h k) x in has_right (starts cl g) (where_empty (empty g) (starts cl h)) (class_of k)
             (has_where (empty g) (starts cl h) (class_of k) s.0 (begun_starts h k s.1)))
       ]
   begun_starts (alt g h) k b =
-      elim (or_split (begins cs g k) (begins cs h k) b) [
+      elim (or_cases (begins cs g k) (begins cs h k) b) [
         | inl x ↦ has_left (starts cl g) (starts cl h) (class_of k) (begun_starts g k x)
         | inr x ↦ has_right
             (starts cl g) (starts cl h) (class_of k) (begun_starts h k x)
