@@ -1,17 +1,13 @@
 -- A stream is cut into frames in one way, however it comes.
 use Rattle.std.proofs.Common.{◌≡◌, ◌∙◌, ℕ, Bool, true, false, ◌&&◌, not, ◌==◌, List, [], ◌∷◌, ◌++◌, refl, sym, ap, subst, append_assoc, append-nil}
 use Rattle.std.specs.List.{concat}
-use Rattle.std.proofs.lemmas.Bool.{eqb-true}
+use Rattle.std.proofs.lemmas.Bool.{eqb-true, and_parts}
 use Rattle.std.proofs.lemmas.List.Folds.{concat-append}
 use Rattle.homeo_reader.specs.Lines.{newline, is_end, whole_lines}
 use Rattle.homeo_frames.specs.Frames.{is_line, IsOther, AreOther, IsFrame, IsOpen, AreFrames, IsCut}
 use Rattle.homeo_frames.specs.Laws.{OneCut, HasCut, CutsOn}
 
 -- ---- lines
-both : (a b : Bool) → (a && b) ≡ true → (a ≡ true) × (b ≡ true)
-both true b h = (refl, h)
-both false b h = cc
-
 -- a newline stands in no line
 no_newline : (line : List ℕ) → is_line (newline ∷ line) ≡ true → ⊥
 no_newline line h = cc
@@ -26,7 +22,7 @@ one_line (a ∷ rest) [] x y h k e =
     let same : a ≡ newline = cc in
     absurd (no_newline rest (subst (λ c. is_line (c ∷ rest) ≡ true) same h))
 one_line (a ∷ rest) (b ∷ bs) x y h k e =
-    let more = one_line rest bs x y (both (not (a == newline)) (is_line rest) h).1 (both (not (b == newline)) (is_line bs) k).1 (cc) in
+    let more = one_line rest bs x y (and_parts (not (a == newline)) (is_line rest) h).1 (and_parts (not (b == newline)) (is_line bs) k).1 (cc) in
     let tails : rest ≡ bs = more.0 in
     (cc, more.1)
 
@@ -37,7 +33,7 @@ no_line [] (b ∷ bs) x k e =
     let same : newline ≡ b = cc in
     no_newline bs (subst (λ c. is_line (c ∷ bs) ≡ true) (sym same) k)
 no_line (a ∷ rest) [] x k e = cc
-no_line (a ∷ rest) (b ∷ bs) x k e = no_line rest bs x (both (not (b == newline)) (is_line bs) k).1 (cc)
+no_line (a ∷ rest) (b ∷ bs) x k e = no_line rest bs x (and_parts (not (b == newline)) (is_line bs) k).1 (cc)
 
 -- ---- lines, and then the last of a frame
 differs : (line last : List ℕ) → is_end line ≡ false → is_end last ≡ true → line ≡ last → ⊥

@@ -1,7 +1,8 @@
 -- The line that a newline ends.
 use Rattle.std.proofs.Common.{◌≡◌, ◌∙◌, ◌+◌, ◌-◌, ◌<◌, ◌≤◌, ◌==◌, ℕ, zero, suc, Bool, true, false, ◌&&◌, not, if◌then◌else◌, List, [], ◌∷◌, ◌++◌, length, get_or, drop, take, refl, sym, ap, ap₂, subst, arith, append_assoc, true≢false, length-append, length-drop}
-use Rattle.std.proofs.lemmas.Bool.{eqb-true}
+use Rattle.std.proofs.lemmas.Bool.{eqb-true, and_parts, and_right}
 use Rattle.std.proofs.lemmas.List.{take_rest, take_at}
+use Rattle.homeo_lemmas.proofs.Bools.{and_false}
 use Rattle.homeo_reader.specs.Lines.{newline, is_blank, is_end, is_end_word, whole_lines}
 use Rattle.homeo_frames.specs.LastLines.{is_one_line, without_last_line}
 use Rattle.homeo_frames.specs.Frames.{is_line, IsFrame, IsOpen}
@@ -30,7 +31,6 @@ end_word (b ∷ line) zero lt h = go (is_blank b) h
 end_word (b ∷ line) (suc at) lt h = end_word line at (omega arith) h
 
 -- ---- the last line
-
 back : (bytes : List ℕ) (m : ℕ) → m < length bytes → (get_or bytes m 0 == newline) ≡ false → is_line (drop (suc m) bytes) ≡ true → is_line (drop m bytes) ≡ true
 back [] m lt other h = absurd (omega arith)
 back (b ∷ bytes) zero lt other h = ap₂ (λ x y. not x && y) other h
@@ -51,13 +51,9 @@ part_last b bytes h = go (is_line (b ∷ bytes)) h
     go false e = refl
     go true e = absurd (true≢false e)
 
-and_false : (x y : Bool) → y ≡ false → (x && y) ≡ false
-and_false true y e = e
-and_false false y e = refl
-
 not_line : (a x : List ℕ) → is_line (a ++ newline ∷ x) ≡ false
 not_line [] x = refl
-not_line (b ∷ a) x = and_false (not (b == newline)) (is_line (a ++ newline ∷ x)) (not_line a x)
+not_line (b ∷ a) x = and_right (not (b == newline)) (is_line (a ++ newline ∷ x)) (not_line a x)
 
 -- the last line stands behind each newline
 skip_line : (a x : List ℕ) → last_line (a ++ newline ∷ x) ≡ last_line x
@@ -72,7 +68,7 @@ last_whole (l ∷ lines) part h =
 not_line_at : (bytes : List ℕ) (m : ℕ) → m < length bytes → get_or bytes m 0 ≡ newline → is_line bytes ≡ false
 not_line_at [] m lt e = absurd (omega arith)
 not_line_at (b ∷ bytes) zero lt e = subst (λ c. is_line (c ∷ bytes) ≡ false) (sym e) refl
-not_line_at (b ∷ bytes) (suc m) lt e = and_false (not (b == newline)) (is_line bytes) (not_line_at bytes m (omega arith) e)
+not_line_at (b ∷ bytes) (suc m) lt e = and_right (not (b == newline)) (is_line bytes) (not_line_at bytes m (omega arith) e)
 
 last_behind : (bytes : List ℕ) (m : ℕ) → m < length bytes → get_or bytes m 0 ≡ newline → is_line (drop (suc m) bytes) ≡ true → last_line bytes ≡ drop (suc m) bytes
 last_behind [] m lt e h = absurd (omega arith)
@@ -103,20 +99,12 @@ ends_line r b is ends o =
     (subst (λ l. IsFrame (l ++ newline ∷ [])) (sym o.are) (frame_line o.before o.part o.others o.line (sym (ap is_end (their_last r o)) ∙ ends)))
 
 -- ---- a frame without its last line
-both : (a b : Bool) → (a && b) ≡ true → (a ≡ true) × (b ≡ true)
-both true b h = (refl, h)
-both false b h = absurd (true≢false (sym h))
-
-not_then : (a : Bool) → (a && false) ≡ false
-not_then true = refl
-not_then false = refl
-
 -- a line and its newline are one line
 one_line : (line : List ℕ) → is_line line ≡ true → is_one_line (line ++ newline ∷ []) ≡ true
 one_line [] h = refl
 one_line (b ∷ []) h = h
 one_line (b ∷ c ∷ line) h =
-    let parts = both (not (b == newline)) (is_line (c ∷ line)) h in
+    let parts = and_parts (not (b == newline)) (is_line (c ∷ line)) h in
     ap (λ x. x && is_one_line ((c ∷ line) ++ newline ∷ [])) parts.0 ∙ one_line (c ∷ line) parts.1
 
 none_without : (b : ℕ) (bytes : List ℕ) → is_one_line (b ∷ bytes) ≡ true → without_last_line (b ∷ bytes) ≡ []
@@ -129,8 +117,8 @@ last_out (b ∷ line) h = none_without b (line ++ newline ∷ []) (one_line (b �
 -- a newline stands before other bytes
 more_lines : (a : List ℕ) (c : ℕ) (x : List ℕ) → is_one_line (a ++ newline ∷ c ∷ x) ≡ false
 more_lines [] c x = refl
-more_lines (b ∷ []) c x = not_then (not (b == newline))
-more_lines (b ∷ d ∷ a) c x = ap (λ v. not (b == newline) && v) (more_lines (d ∷ a) c x) ∙ not_then (not (b == newline))
+more_lines (b ∷ []) c x = and_false (not (b == newline))
+more_lines (b ∷ d ∷ a) c x = ap (λ v. not (b == newline) && v) (more_lines (d ∷ a) c x) ∙ and_false (not (b == newline))
 
 line_stays : (a : List ℕ) (c : ℕ) (x : List ℕ) → without_last_line (a ++ newline ∷ c ∷ x) ≡ a ++ newline ∷ without_last_line (c ∷ x)
 line_stays [] c x = refl
