@@ -1,5 +1,6 @@
 -- Which commands hold an abort, form by form and along lists, as equations, which code rewrites by.
-use Rattle.std.proofs.Common.{◌≡◌, Bool, true, false, ◌||◌, List, [], ◌∷◌, refl}
+use Rattle.std.proofs.Common.{◌≡◌, true, false, ◌||◌, List, [], ◌∷◌, refl}
+use Rattle.homeo_lemmas.proofs.Bools.{or_false, or_unassoc}
 use Rattle.homeo_syntax.specs.Key.{definitions as syntax_definitions}
 use Rattle.homeo_syntax.specs.Source as s
 use Rattle.homeo_syntax.specs.SourceView.{commands}
@@ -67,14 +68,6 @@ pub hold_more : (c : s.Command) (cs : List s.Command) → hold_abort (commands (
 unfolding definitions syntax_definitions
 hold_more c cs = refl
 
-pub or_more : (a b c : Bool) → ((a || b) || c) ≡ (a || (b || c))
-or_more true b c = refl
-or_more false b c = refl
-
-pub or_end : (a : Bool) → (a || false) ≡ a
-or_end true = refl
-or_end false = refl
-
 pub ruleset holds = (holds_Skip, holds_Assign, holds_Write, holds_Print, holds_If, holds_Block, holds_SetField, holds_SetRow, holds_Foreach, holds_Insert, holds_Delete, holds_Update, holds_Abort)
 
-pub ruleset lists = (hold_end, hold_more, or_more, or_end)
+pub ruleset lists = (hold_end, hold_more, or_unassoc, or_false)

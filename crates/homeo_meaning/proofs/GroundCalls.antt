@@ -43,7 +43,7 @@ module _ (P : SitedCall → Type 0) (same : (u k : SitedCall) → same_ground u 
           record { before = k.0; all = (k.1.0, r.all) }
 
 -- calls of one ground call have one body and equal arguments
-numbers_same : (ms ns : List ℤ) → same_numbers ms ns ≡ true → ms ≡ ns
+pub numbers_same : (ms ns : List ℤ) → same_numbers ms ns ≡ true → ms ≡ ns
 numbers_same [] [] e = refl
 numbers_same [] (n ∷ ns) e = cc
 numbers_same (m ∷ ms) [] e = cc

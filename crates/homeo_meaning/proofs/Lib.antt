@@ -11,6 +11,5 @@ pub mod SoundRelations
 pub mod SoundRules
 pub mod Starts
 pub mod Steps
-pub mod TakenItems
 pub mod TransactionPlaces
 pub mod Within

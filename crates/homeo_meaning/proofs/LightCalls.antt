@@ -2,7 +2,7 @@
 use Rattle.std.proofs.Common.{◌≡◌, ℕ, zero, suc, ℤ, Option, Some, None, List, All, refl, sym, subst}
 use Rattle.std.specs.Prelude.{slice_get}
 use Rattle.std.specs.Option.{option_and_then}
-use Rattle.std.proofs.lemmas.Option.{slice_get_within, get_or_from_slice_get}
+use Rattle.homeo_lemmas.proofs.Places.{All-get}
 use Rattle.homeo_syntax.specs.Source as s
 use Rattle.homeo_meaning.specs.declared.call.CallId.{CallId}
 use Rattle.homeo_meaning.specs.Key.{definitions}
@@ -13,16 +13,13 @@ use Rattle.homeo_meaning.specs.Serial.{numbered, call_of, arguments}
 use Rattle.homeo_meaning.proofs.Sound.{IsSound}
 use Rattle.homeo_meaning.proofs.SomeValues.{none_some}
 
-all_at : {X : Type 0} (P : X → Type 0) (xs : List X) (i : ℕ) (x : X) → All P xs → slice_get xs i ≡ Some x → P x
-all_at P xs i x h e = subst P (get_or_from_slice_get xs i x x e) (h i x (slice_get_within xs i x e))
-
 numbered_at : (P : s.Call → Type 0) (n : ℕ) (calls : List s.Call) (c : s.Call) → All P calls → numbered n calls ≡ Some c → P c
 numbered_at P zero calls c h e = absurd (none_some e)
-numbered_at P (suc n) calls c h e = all_at P calls n c h e
+numbered_at P (suc n) calls c h e = All-get P calls n c h e
 
 call_at : (P : s.Call → Type 0) (w : s.Workload) (id : CallId) (c : s.Call) (o : Option s.Client) → slice_get w.clients id.client ≡ o → option_and_then (λ client. numbered id.seq client.calls) o ≡ Some c → All (λ client. All P client.calls) w.clients → P c
 call_at P w id c None e m h = absurd (none_some m)
-call_at P w id c (Some client) e m h = numbered_at P id.seq client.calls c (all_at (λ client. All P client.calls) w.clients id.client client h e) m
+call_at P w id c (Some client) e m h = numbered_at P id.seq client.calls c (All-get (λ client. All P client.calls) w.clients id.client client h e) m
 
 pub call_light : (w : s.Workload) (id : CallId) (c : s.Call) → IsSound w → call_of w id ≡ Some c → IsLightCall w c
 unfolding definitions

@@ -7,6 +7,9 @@ use Rattle.std.proofs.lemmas.Bool.Decides.{nat_tests}
 use Rattle.std.proofs.lemmas.List.{length-map}
 use Rattle.std.proofs.lemmas.List.Sums.{sum_by-append}
 use Rattle.std.proofs.lemmas.List.Quantifiers.{all_pairs_push}
+use Rattle.std.proofs.lemmas.List.Elements.{All-nil, All-cons}
+use Rattle.homeo_lemmas.proofs.Bools.{or_first, or_second}
+use Rattle.homeo_lemmas.proofs.Integers.{not_less}
 use Rattle.homeo_syntax.specs.Source as s
 use Rattle.homeo_syntax.specs.declared.phrase.Ident.{Ident}
 use Rattle.homeo_syntax.specs.declared.workload.ObjectDecl.{ObjectDecl}
@@ -21,26 +24,17 @@ use Rattle.homeo_meaning.specs.Faults.{of_relation, declared_faults}
 use Rattle.homeo_meaning.specs.declared.rules.Fault.{Fault}
 use Rattle.homeo_meaning.specs.declared.rules.Phase.TheVariants as F
 use Rattle.homeo_meaning.proofs.FaultParts.{none_first, none_second, declared_parts, limit_parts}
-use Rattle.homeo_meaning.proofs.SoundRules.{all_none, all_more, not_less}
 
 -- ---- small steps
-when_none : (b : Bool) (f : Fault) → when b (f ∷ []) ≡ [] → b ≡ false
+pub when_none : (b : Bool) (f : Fault) → when b (f ∷ []) ≡ [] → b ≡ false
 when_none true f e = cc
 when_none false f e = refl
 
-or_first : (a b : Bool) → (a || b) ≡ false → a ≡ false
-or_first true b e = cc
-or_first false b e = refl
-
-or_second : (a b : Bool) → (a || b) ≡ false → b ≡ false
-or_second true b e = cc
-or_second false b e = e
-
 -- each of the items that others stand for
 mapped-none : {A B : Type 0} (view : A → B) (rule : A → List Fault) (P : B → Type 0) → ((x : A) → rule x ≡ [] → P (view x)) → (xs : List A) → flat_map rule xs ≡ [] → All P (map view xs)
-mapped-none view rule P h [] e = all_none P
+mapped-none view rule P h [] e = All-nil P
 mapped-none view rule P h (x ∷ xs) e =
-    all_more P (view x) (map view xs) (h x (none_first (rule x) (flat_map rule xs) e)) (mapped-none view rule P h xs (none_second (rule x) (flat_map rule xs) e))
+    All-cons P (view x) (map view xs) (h x (none_first (rule x) (flat_map rule xs) e)) (mapped-none view rule P h xs (none_second (rule x) (flat_map rule xs) e))
 
 -- ---- slots
 pub record SlotsFit (r : Relation) : Type 0 where
@@ -97,7 +91,7 @@ bounds-fit w e = mapped-none declared_relation of_relation (λ (r : Relation). A
 no_more_than : (a b : ℕ) → (nat_le a 1024 && nat_lt 1024 b) ≡ false → a ≤ 1024 → b ≤ 1024
 no_more_than a b e h = grind (arith, nat_tests)
 
-made_more : (before : List Making) (m : Making) → made (before ++ m ∷ []) ≡ made before + m.objects
+pub made_more : (before : List Making) (m : Making) → made (before ++ m ∷ []) ≡ made before + m.objects
 unfolding definitions
 made_more before m = sum_by-append (λ (m : Making). m.objects) before (m ∷ []) ∙ ap (λ n. made before + n) (zero-add m.objects)
 
@@ -151,10 +145,10 @@ few_objects w e =
 -- ---- names
 not_there : (n : ℕ) (before : List ℕ) → is_in n before ≡ false → All (λ m. m ≢ n) before
 unfolding definitions
-not_there n [] e = all_none (λ m. m ≢ n)
+not_there n [] e = All-nil (λ m. m ≢ n)
 not_there n (m ∷ before) e =
     let other : (m == n) ≡ false = or_first (m == n) (list_any (λ k. k == n) before) e in
-    all_more (λ m. m ≢ n) m before (grind (arith, nat_tests)) (not_there n before (or_second (m == n) (list_any (λ k. k == n) before) e))
+    All-cons (λ m. m ≢ n) m before (grind (arith, nat_tests)) (not_there n before (or_second (m == n) (list_any (λ k. k == n) before) e))
 
 abbrev names : List Ident → List ℕ
 names xs = map (λ x. x.name) xs

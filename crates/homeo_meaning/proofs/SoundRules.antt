@@ -1,9 +1,10 @@
 -- What the absence of faults says.
-use Rattle.std.proofs.Common.{◌≡◌, ℕ, zero, suc, ◌+◌, ℤ, ◌≤ℤ◌, Bool, true, false, cond, not, ◌||◌, ◌==◌, List, [], ◌∷◌, ◌++◌, map, Option, Some, None, All, refl, sym, ap, subst, ◌∙◌, add-zero, zero-add, arith, append_assoc}
+use Rattle.std.proofs.Common.{◌≡◌, ℕ, suc, ◌+◌, ℤ, ◌≤ℤ◌, Bool, true, false, cond, not, ◌||◌, ◌==◌, List, [], ◌∷◌, ◌++◌, map, Option, Some, None, All, refl, sym, ap, subst, ◌∙◌, add-zero, zero-add, arith, append_assoc}
 use Rattle.std.specs.Prelude.{slice_get, find, int_lt}
-use Rattle.std.proofs.lemmas.Int.{ints}
 use Rattle.std.proofs.lemmas.List.Concat.{flat_map-append}
 use Rattle.std.specs.List.{flat_map}
+use Rattle.std.proofs.lemmas.List.Elements.{All-nil, All-cons}
+use Rattle.homeo_lemmas.proofs.Integers.{not_less}
 use Rattle.homeo_syntax.specs.Source as s
 use Rattle.homeo_syntax.specs.declared.phrase.Ident.{Ident}
 use Rattle.homeo_syntax.specs.declared.workload.ObjectDecl.{ObjectDecl}
@@ -34,28 +35,12 @@ no_fault : (p : Phase) (x : Ident) (b : Bool) → when (not b) (fault p x) ≡ [
 no_fault p x true e = refl
 no_fault p x false e = cc
 
-pub all_none : {A : Type 0} (P : A → Type 0) → All P []
-all_none P k d h = absurd (omega arith)
-
-pub all_more : {A : Type 0} (P : A → Type 0) (x : A) (xs : List A) → P x → All P xs → All P (x ∷ xs)
-all_more P x xs p h zero d lt = p
-all_more P x xs p h (suc k) d lt = h k d (omega arith)
-
-pub all_head : {A : Type 0} (P : A → Type 0) (x : A) (xs : List A) → All P (x ∷ xs) → P x
-all_head P x xs h = h 0 x (omega arith)
-
-pub all_tail : {A : Type 0} (P : A → Type 0) (x : A) (xs : List A) → All P (x ∷ xs) → All P xs
-all_tail P x xs h k d lt = h (suc k) d (omega arith)
-
 -- each item of a list has no fault where the list has none
 pub each-none : {A : Type 0} (rule : A → List Fault) (P : A → Type 0) → ((x : A) → rule x ≡ [] → P x) → (xs : List A) → flat_map rule xs ≡ [] → All P xs
-each-none rule P h [] e = all_none P
-each-none rule P h (x ∷ xs) e = all_more P x xs (h x (none_first (rule x) (flat_map rule xs) e)) (each-none rule P h xs (none_second (rule x) (flat_map rule xs) e))
+each-none rule P h [] e = All-nil P
+each-none rule P h (x ∷ xs) e = All-cons P x xs (h x (none_first (rule x) (flat_map rule xs) e)) (each-none rule P h xs (none_second (rule x) (flat_map rule xs) e))
 
 -- ---- the initial database
-pub not_less : (a b : ℤ) → int_lt a b ≡ false → b ≤ℤ a
-not_less a b h = grind (arith, ints)
-
 not_below : (p : Phase) (n : ℕ) (a b : ℤ) (z : Bool) → when (int_lt a b || z) (record { phase = p; offset = n } ∷ []) ≡ [] → b ≤ℤ a
 not_below p n a b z e = by_case (int_lt a b) refl e
   where
@@ -177,23 +162,23 @@ heavy_form w c = when (not (is_light_form w (called w c.name) c.args)) (fault F.
 module _ (w : s.Workload) where
   light_calls : (site : ℤ) (calls : List s.Call) → flat_map (λ (c : s.Call). call_faults w.transactions ((scope_of w).item c.name.name) c) calls ≡ [] → flat_map (heavy_form w) (map (λ (c : s.Call). sited c site) calls) ≡ [] → All (IsLightCall w) calls
   unfolding definitions
-  light_calls site [] e heavy = all_none (IsLightCall w)
+  light_calls site [] e heavy = All-nil (IsLightCall w)
   light_calls site (c ∷ calls) e heavy =
       let rest : List Fault = flat_map (heavy_form w) (map (λ (c : s.Call). sited c site) calls) in
       let more : List Fault = flat_map (λ (c : s.Call). call_faults w.transactions ((scope_of w).item c.name.name) c) calls in
       let first : List Fault = call_faults w.transactions ((scope_of w).item c.name.name) c in
       let light : is_light_form w (called w c.name) (arguments c) ≡ true = no_fault F.Weight c.name (is_light_form w (called w c.name) (arguments c)) (none_first (heavy_form w (sited c site)) rest heavy) in
-      all_more (IsLightCall w) c calls (light_call w c (none_first first more e) light) (light_calls site calls (none_second first more e) (none_second (heavy_form w (sited c site)) rest heavy))
+      All-cons (IsLightCall w) c calls (light_call w c (none_first first more e) light) (light_calls site calls (none_second first more e) (none_second (heavy_form w (sited c site)) rest heavy))
 
   light_clients : (cs : List s.Client) → flat_map (client_faults w.sites (scope_of w) w.transactions) cs ≡ [] → flat_map (heavy_form w) (flat_map sited_calls_of cs) ≡ [] → All (λ client. All (IsLightCall w) client.calls) cs
   unfolding definitions
-  light_clients [] e heavy = all_none (λ client. All (IsLightCall w) client.calls)
+  light_clients [] e heavy = All-nil (λ client. All (IsLightCall w) client.calls)
   light_clients (c ∷ cs) e heavy =
       let faults : List Fault = flat_map (λ (call : s.Call). call_faults w.transactions ((scope_of w).item call.name.name) call) c.calls in
       let sites : List Fault = site_faults w.sites c.site in
       let more : List Fault = flat_map (client_faults w.sites (scope_of w) w.transactions) cs in
       let split : flat_map (heavy_form w) (sited_calls_of c) ++ flat_map (heavy_form w) (flat_map sited_calls_of cs) ≡ [] = sym (flat_map-append (heavy_form w) (sited_calls_of c) (flat_map sited_calls_of cs)) ∙ heavy in
-      all_more (λ (client : s.Client). All (IsLightCall w) client.calls) c cs (light_calls c.site.value c.calls (none_first faults sites (none_first (faults ++ sites) more e)) (none_first (flat_map (heavy_form w) (sited_calls_of c)) (flat_map (heavy_form w) (flat_map sited_calls_of cs)) split)) (light_clients cs (none_second (faults ++ sites) more e) (none_second (flat_map (heavy_form w) (sited_calls_of c)) (flat_map (heavy_form w) (flat_map sited_calls_of cs)) split))
+      All-cons (λ (client : s.Client). All (IsLightCall w) client.calls) c cs (light_calls c.site.value c.calls (none_first faults sites (none_first (faults ++ sites) more e)) (none_first (flat_map (heavy_form w) (sited_calls_of c)) (flat_map (heavy_form w) (flat_map sited_calls_of cs)) split)) (light_clients cs (none_second (faults ++ sites) more e) (none_second (flat_map (heavy_form w) (sited_calls_of c)) (flat_map (heavy_form w) (flat_map sited_calls_of cs)) split))
 
 -- ---- each call is as light as its ground call
 light_ground : (w : s.Workload) (cs : List SitedCall) → flat_map (heavy_call w) cs ≡ [] → Every (λ c. is_light_form w (called w c.name) c.args ≡ true) cs

@@ -3,13 +3,14 @@ use Rattle.std.proofs.Common.{◌≡◌, ℕ, zero, suc, pos, Bool, true, false,
 use Rattle.std.specs.Prelude.{int_lt}
 use Rattle.std.specs.List.{flat_map}
 use Rattle.std.proofs.lemmas.Int.{ints}
+use Rattle.std.proofs.lemmas.List.Elements.{All-head, All-tail}
 use Rattle.homeo_syntax.specs.Source as s
 use Rattle.homeo_meaning.specs.Key.{definitions}
 use Rattle.homeo_meaning.specs.Schema.{Declared, Relation, declared_object, schema_of}
 use Rattle.homeo_meaning.specs.Bounds.{bounds_of, slot_bounds, relation_bounds, IsIn, AreIn, IsWithin}
 use Rattle.homeo_meaning.specs.Initial.{nearest_zero, slot_starts, relation_starts, initial}
 use Rattle.homeo_meaning.specs.NumberRules.{object_faults}
-use Rattle.homeo_meaning.proofs.SoundRules.{all_head, all_tail, starts_in}
+use Rattle.homeo_meaning.proofs.SoundRules.{starts_in}
 use Rattle.homeo_meaning.proofs.SoundRelations.{BoundsFit}
 use Rattle.homeo_meaning.proofs.Within.{are_in_both}
 
@@ -25,7 +26,7 @@ nearest_in d h = by_case (int_lt (pos 0) d.lo) (int_lt d.hi (pos 0)) refl refl
 fields_in : (ds : List Declared) → All BoundsFit ds → AreIn (map bounds_of ds) (map nearest_zero ds)
 unfolding definitions
 fields_in [] h = tt
-fields_in (d ∷ ds) h = (nearest_in d (all_head BoundsFit d ds h), fields_in ds (all_tail BoundsFit d ds h))
+fields_in (d ∷ ds) h = (nearest_in d (All-head BoundsFit d ds h), fields_in ds (All-tail BoundsFit d ds h))
 
 slots_in : (n : ℕ) (ds : List Declared) → All BoundsFit ds → AreIn (slot_bounds n ds) (slot_starts n ds)
 unfolding definitions
@@ -38,7 +39,7 @@ unfolding definitions
 relations_in [] h = tt
 relations_in (r ∷ rs) h =
     let P : Relation → Type 0 = λ (r : Relation). All BoundsFit r.fields in
-    are_in_both (slot_bounds r.slots r.fields) (relation_bounds rs) (slot_starts r.slots r.fields) (relation_starts rs) (slots_in r.slots r.fields (all_head P r rs h)) (relations_in rs (all_tail P r rs h))
+    are_in_both (slot_bounds r.slots r.fields) (relation_bounds rs) (slot_starts r.slots r.fields) (relation_starts rs) (slots_in r.slots r.fields (All-head P r rs h)) (relations_in rs (All-tail P r rs h))
 
 pub starts-within : (w : s.Workload) → flat_map object_faults w.objects ≡ [] → All (λ (r : Relation). All BoundsFit r.fields) (schema_of w).relations → IsWithin (schema_of w) (initial w)
 unfolding definitions
