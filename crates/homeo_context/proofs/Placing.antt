@@ -4,6 +4,9 @@ use Rattle.std.specs.Int.RustNames.{unsigned_abs}
 use Rattle.std.proofs.lemmas.Int.{to_z-of_z}
 use Rattle.std.proofs.Math.Seq.{drop-cons}
 use Rattle.std.proofs.lemmas.List.{length-map, map-append, take-append-drop}
+use Rattle.std.proofs.lemmas.List.Elements.{All-nil, All-cons, All-head, All-tail}
+use Rattle.std.proofs.lemmas.Simd.{map-map}
+use Rattle.homeo_lemmas.proofs.Lists.{map_take_more}
 use Rattle.homeo_syntax.specs.Key.{definitions as syntax_definitions}
 use Rattle.homeo_syntax.specs.SourceView.{plain_relation}
 use Rattle.homeo_syntax.specs.declared.workload.RelationDecl.{RelationDecl}
@@ -13,8 +16,6 @@ use Rattle.homeo_meaning.specs.Schema.{Relation, declared_range, declared_relati
 use Rattle.homeo_meaning.specs.Context.{object_count}
 use Rattle.homeo_context.specs.Placed.{placed_relation, StandFrom, HasSlots}
 use Rattle.homeo_meaning.proofs.SoundRelations.{SlotsFit}
-use Rattle.homeo_meaning.proofs.SoundRules.{all_none, all_more, all_head, all_tail}
-use Rattle.homeo_meaning.proofs.TakenItems.{take_next, map_twice}
 
 -- ---- slots as the code counts them
 size_is : (v : ℤ) → 1 ≤ nat_of v → unsigned_abs v ≡ nat_of v
@@ -26,10 +27,10 @@ slots_are r h f = ap unsigned_abs (to_z-of_z w64 r.slots.value f) ∙ size_is r.
 
 pub have_slots : (rs : List RelationDecl) → All SlotsFit (map declared_relation (map plain_relation rs)) → All HasSlots rs
 unfolding definitions syntax_definitions
-have_slots [] h = all_none HasSlots
+have_slots [] h = All-nil HasSlots
 have_slots (r ∷ rs) h =
-    let here : SlotsFit (declared_relation (plain_relation r)) = all_head SlotsFit (declared_relation (plain_relation r)) (map declared_relation (map plain_relation rs)) h in
-    all_more HasSlots r rs (record { least = here.least; most = here.most }) (have_slots rs (all_tail SlotsFit (declared_relation (plain_relation r)) (map declared_relation (map plain_relation rs)) h))
+    let here : SlotsFit (declared_relation (plain_relation r)) = All-head SlotsFit (declared_relation (plain_relation r)) (map declared_relation (map plain_relation rs)) h in
+    All-cons HasSlots r rs (record { least = here.least; most = here.most }) (have_slots rs (All-tail SlotsFit (declared_relation (plain_relation r)) (map declared_relation (map plain_relation rs)) h))
 
 -- ---- how many objects there are
 count_least : (k : ℕ) (rs : List Relation) → k ≤ object_count k rs
@@ -59,9 +60,9 @@ next_few first rs i r ps next h p placed at few =
     let taken : List RelationDecl = take (i + 1) rs in
     let rest : List RelationDecl = drop (i + 1) rs in
     let split : map declared rs ≡ map declared taken ++ map declared rest = ap (map declared) (sym (take-append-drop (i + 1) rs)) ∙ map-append declared taken rest in
-    let whole : object_count first (map declared_relation (map plain_relation rs)) ≡ object_count (object_count first (map declared taken)) (map declared rest) = ap (object_count first) (map_twice declared_relation plain_relation rs ∙ split) ∙ count_both first (map declared taken) (map declared rest) in
+    let whole : object_count first (map declared_relation (map plain_relation rs)) ≡ object_count (object_count first (map declared taken)) (map declared rest) = ap (object_count first) (map-map declared_relation plain_relation rs ∙ split) ∙ count_both first (map declared taken) (map declared rest) in
     let part : object_count first (map declared taken) ≤ object_count (object_count first (map declared taken)) (map declared rest) = count_least (object_count first (map declared taken)) (map declared rest) in
-    let step : object_count first (map declared taken) ≡ next + nat_of r.slots.value * (1 + length r.fields.items) = ap (object_count first) (take_next declared rs i r h p) ∙ count_more first (map declared (take i rs)) (declared r) ∙ (λ j. (ap (object_count first) (sym placed) ∙ sym at) j + declared_width r j) in
+    let step : object_count first (map declared taken) ≡ next + nat_of r.slots.value * (1 + length r.fields.items) = ap (object_count first) (map_take_more declared rs i r h p) ∙ count_more first (map declared (take i rs)) (declared r) ∙ (λ j. (ap (object_count first) (sym placed) ∙ sym at) j + declared_width r j) in
     omega arith
 
 -- ---- relations and where they stand
@@ -88,7 +89,7 @@ place_step first rs i r ps next p after items h e placed stand at few added name
     let small : next + nat_of r.slots.value * (1 + length r.fields.items) ≤ 1024 = next_few first rs i r ps next h e placed at few in
     let own : (placed_relation p).slots * (1 + length (placed_relation p).fields) ≡ p.slots * (1 + length p.fields.items) = ap (λ n. p.slots * (1 + n)) (length-map p.fields.items declared_range) in
     record {
-      placed = now ∙ (λ j. placed j ++ is j ∷ []) ∙ sym (take_next declared rs i r h e);
+      placed = now ∙ (λ j. placed j ++ is j ∷ []) ∙ sym (map_take_more declared rs i r h e);
       stand = subst (StandFrom first) (sym added) (stand_more first ps p stand (start ∙ at) (omega arith));
       at = behind ∙ (λ j. at j + sym own j) ∙ sym (count_more first (map placed_relation ps) (placed_relation p)) ∙ ap (object_count first) (sym now);
     }

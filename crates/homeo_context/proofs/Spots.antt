@@ -1,13 +1,13 @@
 -- Where names are found.
 use Rattle.std.proofs.Common.{◌≡◌, ℕ, suc, ◌+◌, ◌<◌, ◌≤◌, ◌==◌, ◌⊎◌, inl, inr, ⊎_elim, Bool, true, false, cond, ℤ, pos, Some, None, List, [], ◌∷◌, map, length, get_or, refl, sym, ap, ◌∙◌, arith}
 use Rattle.std.specs.Prelude.{slice_get, option_map}
-use Rattle.std.proofs.lemmas.Option.{slice_get_past, slice_get-map, slice_get_read}
+use Rattle.std.proofs.lemmas.Option.{slice_get_past, slice_get-map, slice_get_read, same_Some}
 use Rattle.homeo_syntax.specs.declared.workload.ObjectDecl.{ObjectDecl}
 use Rattle.homeo_meaning.specs.Key.{definitions}
 use Rattle.homeo_meaning.specs.Schema.{Declared, declared_object}
 use Rattle.homeo_meaning.specs.Context.{Spot, spot_from, spot}
 use Rattle.homeo_meaning.specs.Declarations.{place_from}
-use Rattle.homeo_meaning.proofs.SomeValues.{some_is, none_some}
+use Rattle.homeo_meaning.proofs.SomeValues.{none_some}
 
 place_cond : (b : Bool) (p q : Spot) → (cond b p q).place ≡ cond b p.place q.place
 place_cond true p q = refl
@@ -68,7 +68,7 @@ kept_some ds n d h =
     ⊎_elim
     (λ f.
     let at : slice_get ds (spot ds n).place ≡ Some f.declared = ap (λ s. slice_get ds s.place) f.spot ∙ ap (slice_get ds) (omega arith) ∙ f.there in
-    let same : f.declared ≡ d = some_is _ _ (sym at ∙ h) in
+    let same : f.declared ≡ d = same_Some _ _ (sym at ∙ h) in
     record { lo = ap (λ s. s.lo) f.spot ∙ ap (λ e. e.lo) same; hi = ap (λ s. s.hi) f.spot ∙ ap (λ e. e.hi) same })
     (λ f. let at : slice_get ds (spot ds n).place ≡ None = ap (λ s. slice_get ds s.place) f.spot ∙ slice_get_past ds (0 + length ds) (omega arith) in absurd (none_some (sym at ∙ h)))
     (look 0 n ds)

@@ -3,13 +3,13 @@ use Rattle.std.specs.Int.RustNames.{unsigned_abs}
 use Rattle.std.proofs.Common.{w64, to_z, of_z}
 use Rattle.std.proofs.Common.{◌≡◌, Fits}
 use Rattle.std.proofs.lemmas.List.{take_all}
+use Rattle.std.proofs.lemmas.Simd.{map-map}
 use Rattle.homeo_syntax.specs.SourceView.{plain_relation}
 use Rattle.homeo_meaning.specs.Key.{definitions}
 use Rattle.homeo_meaning.specs.Schema.{nat_of, declared_relation}
 use Rattle.homeo_meaning.specs.Context.{object_count}
 use Rattle.homeo_context.specs.Placed.{placed_relation, StandFrom, HasSlots}
 use Rattle.homeo_context.proofs.Placing.{slots_are, next_few, place_step}
-use Rattle.homeo_meaning.proofs.TakenItems.{map_twice}
 use Rattle.homeo_context.proofs.declarations.place_relations.Goals as goal
 
 pub loop-relation-init : goal.loop-relation-init
@@ -66,4 +66,4 @@ pub returns-clause-relations : goal.returns-clause-relations
 returns-clause-relations c =
     c.loop-relation.invariant.placed
     ∙ ap (map (λ q. declared_relation (plain_relation q))) (take_all _ _ c.loop-relation-test.false)
-    ∙ sym (map_twice declared_relation plain_relation c.args.relations.now)
+    ∙ sym (map-map declared_relation plain_relation c.args.relations.now)
