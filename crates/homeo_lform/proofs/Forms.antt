@@ -1,6 +1,6 @@
 -- Every L form does what the source does.
 use Rattle.std.proofs.Common.{◌≡◌, ℕ, Bool, true, false, cond, ◌||◌, [], ◌∷◌, ℤ, pos, refl, sym, ap, ap₂, ◌∙◌, subst, arith}
-use Rattle.std.proofs.lemmas.Bool.{false≢true}
+use Rattle.std.proofs.lemmas.Bool.{false≢true, or_right}
 use Rattle.homeo_syntax.specs.declared.low.Temp.TheVariants as temp
 use Rattle.homeo_syntax.specs.Low as L
 use Rattle.homeo_syntax.specs.Source.{Command, Commands, Skip, Assign, Write, Print, If, Block, SetField, SetRow, Foreach, Insert, Delete, Update, Abort, NoCommand, MoreCommand}
@@ -31,10 +31,6 @@ abort_told : (b : Bool) (s : M.State) → b ≡ true → told_low b (M.exec (set
 unfolding definitions
 abort_told true s e = λ i. record { state = seen s; prints = []; flag = put_here 0 s (pos 1) i }
 abort_told false s e = absurd (false≢true e)
-
-or_second : (x y : Bool) → y ≡ true → (x || y) ≡ true
-or_second true y e = refl
-or_second false y e = e
 
 -- b says whether the call can be ended
 module _ (b : Bool) where
@@ -122,7 +118,7 @@ module _ (b : Bool) where
         let d = does w c (seen s) in
         let first : told_low b r ≡ told d = ap (told_low b) (guard_down b g x.command s hg ready.down) ∙ form_told w c n s hc ready in
         then_told b r others d (does_all w cs) first
-        (λ up. subst (λ z. M.exec_all (forms w z cs x.next).commands r.state ≡ quiet r.state) (sym (or_second g (holds_abort c) (ends w c n s g ready d first up (holds_abort c) refl))) (forms_up w cs x.next r.state (ended_up b r d first up).1))
+        (λ up. subst (λ z. M.exec_all (forms w z cs x.next).commands r.state ≡ quiet r.state) (sym (or_right g (holds_abort c) (ends w c n s g ready d first up (holds_abort c) refl))) (forms_up w cs x.next r.state (ended_up b r d first up).1))
         (λ on. forms_told w later cs x.next r.state (also_ends g (holds_abort c) hg hc) hcs (goes_on b x.next r d (omega (arith, ready.room, (form_takes b w c n s hc).grows)) first on)
         ∙ ap (λ (t : Told). told (does_all w cs t.state)) first)
 

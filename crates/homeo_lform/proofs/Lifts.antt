@@ -37,7 +37,7 @@ pub record Lifts {A V : Type 0} (n : ℕ) (s : M.State) (x : Lifted A) (at : A �
   pub means : (u : M.State) → Alike x.next after u → at x.phrase u ≡ v (seen s)
 
 -- ---- runs
-after_twice : (ps qs : List ℤ) (r : M.Run) → M.after_prints (ps ++ qs) r ≡ M.after_prints ps (M.after_prints qs r)
+pub after_twice : (ps qs : List ℤ) (r : M.Run) → M.after_prints (ps ++ qs) r ≡ M.after_prints ps (M.after_prints qs r)
 unfolding definitions
 after_twice ps qs r = ap (λ (l : List ℤ). let w : M.Run = record { state = r.state; prints = l } in w) (append_assoc ps qs r.prints)
 

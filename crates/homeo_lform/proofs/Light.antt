@@ -5,6 +5,8 @@ use Rattle.std.proofs.lemmas.Int.{ints, unsigned_abs-mul}
 use Rattle.std.proofs.lemmas.Nat.{mul-le}
 use Rattle.std.proofs.lemmas.Bool.{and_parts}
 use Rattle.std.proofs.lemmas.Bool.Decides.{nat_tests}
+use Rattle.homeo_lemmas.proofs.Integers.{abs_neg}
+use Rattle.homeo_lemmas.proofs.Naturals.{product_positive, factor_le}
 use Rattle.homeo_syntax.specs.Low.{Expr, Exprs, Literal, OfTemp, Read, Sum, Product, Neg, NoExpr, MoreExpr, Test, Cond, True, Not, Comparison, NoTest, MoreTest, Command, Commands, Skip, Assign, Write, Print, Seq, If, NoCommand, MoreCommand}
 use Rattle.homeo_syntax.specs.Source as s
 use Rattle.homeo_meaning.specs.Key.{definitions}
@@ -19,18 +21,8 @@ use Rattle.homeo_meaning.specs.Small.{IsSmall, ComputesSmall}
 use Rattle.homeo_lform.specs.Covers.{Covers}
 use Rattle.homeo_lform.proofs.SourceNumbers.{values_law}
 
-abs_neg : (v : ℤ) → unsigned_abs (neg_ℤ v) ≡ unsigned_abs v
-abs_neg v = grind (arith, ints)
-
 abs_add : (a b : ℤ) → unsigned_abs (a +ℤ b) ≤ unsigned_abs a + unsigned_abs b
 abs_add a b = grind (arith, ints)
-
-one_mul : (m n : ℕ) → 1 ≤ m → 1 ≤ n → 1 ≤ m * n
-one_mul m n p q = omega (arith, mul-le 1 1 m n p q)
-
--- a factor is at most the product
-factor_le : (a k : ℕ) → 1 ≤ k → a ≤ a * k
-factor_le a k p = omega (arith, mul-le a 1 a k (omega arith) p)
 
 module _ (w : Location → ℕ) (ones : (p : Location) → 1 ≤ w p) where
   mutual
@@ -46,9 +38,9 @@ module _ (w : Location → ℕ) (ones : (p : Location) → 1 ≤ w p) where
 
     one_product : (es : Exprs) → 1 ≤ product_weight es w
     one_product NoExpr = omega arith
-    one_product (MoreExpr e es) = one_mul (weight e w) (product_weight es w) (one_weight e) (one_product es)
+    one_product (MoreExpr e es) = product_positive (weight e w) (product_weight es w) (one_weight e) (one_product es)
 
-weight_small : (b : ℕ) (w : Location → ℕ) (e : Expr) → is_light_expr b e w ≡ true → weight e w ≤ b
+pub weight_small : (b : ℕ) (w : Location → ℕ) (e : Expr) → is_light_expr b e w ≡ true → weight e w ≤ b
 unfolding definitions
 weight_small b w e h = grind (arith, nat_tests)
 
@@ -90,12 +82,12 @@ module _ (b : ℕ) (w : Location → ℕ) (s : State) (c : Covers w s) where
         let rest = product_weight es w in
         let one_rest = one_product w c.one es in
         let one_e = one_weight w c.one e in
-        let whole_le : we ≤ we * (m * rest) = factor_le we (m * rest) (one_mul m rest one one_rest) in
+        let whole_le : we ≤ we * (m * rest) = factor_le we (m * rest) (product_positive m rest one one_rest) in
         let l = light e (omega (arith, h, whole_le)) in
         let here : unsigned_abs (n *ℤ value e s) ≤ m * we = omega
         (arith, unsigned_abs-mul n (value e s), mul-le (unsigned_abs n) (unsigned_abs (value e s)) m we k l.size) in
         let part : m * we ≤ (m * we) * rest = factor_le (m * we) rest one_rest in
-        let r = product_light es (n *ℤ value e s) (m * we) here (one_mul m we one one_e) (omega (arith, h)) in
+        let r = product_light es (n *ℤ value e s) (m * we) here (product_positive m we one one_e) (omega (arith, h)) in
         record { can = (l.can, omega (arith, here, part, h), r.can); size = omega (arith, r.size) }
 
   mutual
@@ -177,11 +169,11 @@ module _ (b : ℕ) where
         let parts = and_parts (is_light b c w) _ h in
         (run_light c w s k parts.0, all_light cs (after c w) (exec c s).state (run_covered c w s k) parts.1)
 
-in_size : (x : Bounds) (v : ℤ) → IsIn x v → unsigned_abs v ≤ bounds_weight x
+pub in_size : (x : Bounds) (v : ℤ) → IsIn x v → unsigned_abs v ≤ bounds_weight x
 unfolding definitions
 in_size x v h = grind (arith, ints, h.0, h.1)
 
-size_at : (bs : List Bounds) (n : ℕ) (v : ℤ) → IsIn (bounds_at bs n) v → unsigned_abs v ≤ weight_at bs n
+pub size_at : (bs : List Bounds) (n : ℕ) (v : ℤ) → IsIn (bounds_at bs n) v → unsigned_abs v ≤ weight_at bs n
 unfolding definitions
 size_at [] n v h = grind (arith, ints, h.0, h.1)
 size_at (b ∷ bs) zero v h = in_size b v h

@@ -110,7 +110,7 @@ all_fit g k first ds (suc n) rest h z =
           (begins_after g (suc first) (first + (1 + length ds)) (map bounds_of ds) more (omega (arith, length-map ds bounds_of)) (begins_next g first (record { lo = pos 0; hi = pos 1 }) (map bounds_of ds ++ more) split)) z,
     )
 
-slots_length : (n : ℕ) (ds : List Declared) → length (slot_bounds n ds) ≡ n * (1 + length ds)
+pub slots_length : (n : ℕ) (ds : List Declared) → length (slot_bounds n ds) ≡ n * (1 + length ds)
 unfolding definitions
 slots_length zero ds = omega arith
 slots_length (suc n) ds =

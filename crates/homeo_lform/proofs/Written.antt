@@ -1,8 +1,8 @@
 -- The objects that an L form writes are found along the source, whatever its fresh temporaries; and a command keeps each
 -- object that it doesn't write.
-use Rattle.std.proofs.Common.{◌≡◌, ℕ, suc, ◌==◌, Bool, true, false, cond, ◌||◌, List, [], ◌∷◌, ℤ, Option, Some, None, refl, sym, ap, ◌∙◌, arith}
+use Rattle.std.proofs.Common.{◌≡◌, ℕ, suc, ◌==◌, Bool, true, false, cond, ◌||◌, List, [], ◌∷◌, ℤ, Option, Some, None, refl, ap, ◌∙◌, arith}
 use Rattle.std.specs.Prelude.{nat_lt}
-use Rattle.std.proofs.lemmas.Bool.{false≢true}
+use Rattle.std.proofs.lemmas.Bool.{or_parts}
 use Rattle.std.proofs.lemmas.Bool.Decides.{nat_tests}
 use Rattle.homeo_syntax.specs.declared.low.SplitName.{SplitName}
 use Rattle.homeo_syntax.specs.declared.low.SplitName.TheVariants as split
@@ -112,7 +112,7 @@ mutual
   cond_silent w (MoreTest t c) n = both_silent (lift_test w t n).before (lift_cond w c (lift_test w t n).next).before (test_silent w t n) (cond_silent w c (lift_test w t n).next)
 
 -- ---- an index
-name_literal : (o : Option ℤ) (t : ℕ) → literal_of (name_of o t) ≡ o
+pub name_literal : (o : Option ℤ) (t : ℕ) → literal_of (name_of o t) ≡ o
 unfolding definitions
 name_literal (Some v) t = refl
 name_literal None t = refl
@@ -231,22 +231,18 @@ abbrev pub among : ℕ → List ℕ → Bool
 among k [] = false
 among k (m ∷ ms) = (m == k) || among k ms
 
-neither : (a b : Bool) → (a || b) ≡ false → (a ≡ false) × (b ≡ false)
-neither true b e = absurd (false≢true (sym e))
-neither false b e = (refl, e)
-
 not_among : (k n : ℕ) (ms : List ℕ) → among k (with_number n ms) ≡ false → ((n == k) ≡ false) × (among k ms ≡ false)
 unfolding definitions
-not_among k n [] h = ((neither (n == k) false h).0, refl)
+not_among k n [] h = ((or_parts (n == k) false h).0, refl)
 not_among k n (m ∷ ms) h = by_case (not_among k n ms) (nat_lt n m) (n == m) refl h
   where
     by_case : (among k (with_number n ms) ≡ false → ((n == k) ≡ false) × (among k ms ≡ false)) → (a b : Bool) → (n == m) ≡ b → among k (cond a (n ∷ m ∷ ms) (cond b (m ∷ ms) (m ∷ with_number n ms))) ≡ false → ((n == k) ≡ false) × (among k (m ∷ ms) ≡ false)
-    by_case ih true b e h = neither (n == k) (among k (m ∷ ms)) h
+    by_case ih true b e h = or_parts (n == k) (among k (m ∷ ms)) h
     by_case ih false true e h =
         let same : n ≡ m = grind (arith, nat_tests) in
-        (ap (λ j. j == k) same ∙ (neither (m == k) (among k ms) h).0, h)
+        (ap (λ j. j == k) same ∙ (or_parts (m == k) (among k ms) h).0, h)
     by_case ih false false e h =
-        let p = neither (m == k) (among k (with_number n ms)) h in
+        let p = or_parts (m == k) (among k (with_number n ms)) h in
         let q = ih p.1 in
         (q.0, ap (λ z. z || among k ms) p.0 ∙ q.1)
 
