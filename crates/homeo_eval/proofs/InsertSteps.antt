@@ -3,6 +3,7 @@ use Rattle.std.proofs.Common.{◌≡◌, ℕ, suc, ◌+◌, ◌<◌, ◌≤◌, 
 use Rattle.std.proofs.Math.Seq.{drop-cons}
 use Rattle.std.proofs.lemmas.Bool.{and_parts}
 use Rattle.std.proofs.lemmas.List.{map-append}
+use Rattle.homeo_lemmas.proofs.Lists.{map_drop_past}
 use Rattle.homeo_syntax.specs.Key.{definitions as syntax_definitions}
 use Rattle.homeo_syntax.specs.SourceView.{plain_field, plain_expr}
 use Rattle.homeo_syntax.specs.Source as s
@@ -15,7 +16,7 @@ use Rattle.homeo_meaning.specs.Meaning.{State, Setting, value, settings, is_free
 use Rattle.homeo_eval.specs.inner.CanRun.{expr_fits, values_fit}
 use Rattle.homeo_context.specs.Slots.{plain_spot}
 use Rattle.homeo_eval.specs.inner.Settings.{plain_setting}
-use Rattle.homeo_meaning.proofs.Steps.{drop_next, drop_none}
+use Rattle.homeo_meaning.proofs.Steps.{drop_next}
 
 abbrev rest_of : List code.Setting → ℕ → List Setting
 rest_of xs i = map plain_setting (drop i xs)
@@ -44,7 +45,7 @@ admits xs i none v r h e p q = sym (within_next xs i none v r h e p ∙ ap (λ b
 
 pub admits_all : (xs : List code.Setting) (i : ℕ) → length xs ≤ i → are_within (map plain_setting (drop i xs)) ≡ true
 unfolding definitions
-admits_all xs i h = ap are_within (drop_none plain_setting xs i h)
+admits_all xs i h = ap are_within (map_drop_past plain_setting xs i h)
 
 -- ---- the fields that are left to be set
 fields_more : (slot : Slot) (f : Setting) (fs : List Setting) (s : State) → set_fields slot (f ∷ fs) s ≡ set_fields slot fs (set_object s (cell slot f.field) f.value)
@@ -59,7 +60,7 @@ field_set slot xs i none s u v h e p =
 
 pub fields_set : (slot : Slot) (xs : List code.Setting) (i : ℕ) (s : State) → length xs ≤ i → set_fields slot (map plain_setting (drop i xs)) s ≡ s
 unfolding definitions
-fields_set slot xs i s h = ap (λ l. set_fields slot l s) (drop_none plain_setting xs i h)
+fields_set slot xs i s h = ap (λ l. set_fields slot l s) (map_drop_past plain_setting xs i h)
 
 -- ---- the values that are left to be computed
 values_more : (b : ℕ) (x : Context) (f : s.FieldValue) (fs : List s.FieldValue) (u : State) → values_fit b x (f ∷ fs) u ≡ expr_fits b x f.value u && values_fit b x fs u
@@ -93,7 +94,7 @@ setting_more x ds u xs i f all items n whole h p added at v left =
 
 pub settings_all : (x : Context) (ds : List Declared) (u : State) (xs : List FieldValue) (i : ℕ) (all : List Setting) → length xs ≤ i → all ≡ all ++ settings x ds (map plain_field (drop i xs)) u
 unfolding definitions
-settings_all x ds u xs i all h = sym (ap (λ l. all ++ settings x ds l u) (drop_none plain_field xs i h) ∙ append-nil all)
+settings_all x ds u xs i all h = sym (ap (λ l. all ++ settings x ds l u) (map_drop_past plain_field xs i h) ∙ append-nil all)
 
 -- ---- the insert
 pub insert_refused : (all : List Slot) (fs gs : List Setting) (t : ℕ) (s : State) → gs ≡ fs → are_within gs ≡ false → set_temp s t (pos 0) ≡ insert all fs t s

@@ -2,6 +2,7 @@
 use Rattle.std.proofs.Common.{◌≡◌, ℕ, ◌+◌, ◌≤◌, true, ℤ, pos, List, [], ◌∷◌, map, length, Some, All, sym, subst, arith}
 use Rattle.std.proofs.lemmas.Int.{ints}
 use Rattle.std.proofs.lemmas.Bool.{and_parts}
+use Rattle.std.proofs.lemmas.List.Elements.{All-nil, All-cons}
 use Rattle.homeo_syntax.specs.Source.{FieldValue}
 use Rattle.homeo_eval.specs.declared.inserts.Setting as code
 use Rattle.homeo_meaning.specs.Key.{definitions}
@@ -13,7 +14,6 @@ use Rattle.homeo_lform.specs.RowsFit.{Admits}
 use Rattle.homeo_eval.specs.inner.States.{IsZeroPast}
 use Rattle.homeo_eval.specs.inner.Settings.{plain_setting}
 use Rattle.homeo_lform.proofs.ObjectBounds.{Each, ForSome, each_first, SlotFits, all_at, slots_fit}
-use Rattle.homeo_meaning.proofs.SoundRules.{all_none, all_more}
 use Rattle.homeo_lform.proofs.Stays.{past_end, values_admitted}
 
 pub value_past : (w : Schema) (n : ℕ) (v : ℤ) → length (all_bounds w) ≤ n → IsIn (all_at w n) v → v ≡ pos 0
@@ -32,10 +32,10 @@ used_there w count n e h past = value_past w n (pos 1) (subst (λ m. m ≤ n) e 
 -- ---- the settings of an insert
 admitted_zero : (w : Schema) (count : ℕ) (slot : Slot) (all : List code.Setting) → count ≡ length (all_bounds w) → Each (λ f. Admits (all_at w (cell slot f.field)) f.field) (map plain_setting all) → are_within (map plain_setting all) ≡ true → All (λ (f : code.Setting). count ≤ slot.used + 1 + f.field.place → f.value ≡ pos 0) all
 unfolding definitions
-admitted_zero w count slot [] e h k = all_none (λ (f : code.Setting). count ≤ slot.used + 1 + f.field.place → f.value ≡ pos 0)
+admitted_zero w count slot [] e h k = All-nil (λ (f : code.Setting). count ≤ slot.used + 1 + f.field.place → f.value ≡ pos 0)
 admitted_zero w count slot (f ∷ all) e h k =
     let both = and_parts (is_within (plain_setting f).field (plain_setting f).value) (are_within (map plain_setting all)) k in
-    all_more (λ (f : code.Setting). count ≤ slot.used + 1 + f.field.place → f.value ≡ pos 0) f all (λ past. value_past w (cell slot (plain_setting f).field) f.value (subst (λ m. m ≤ cell slot (plain_setting f).field) e past) (h.0 f.value both.0)) (admitted_zero w count slot all e h.1 both.1)
+    All-cons (λ (f : code.Setting). count ≤ slot.used + 1 + f.field.place → f.value ≡ pos 0) f all (λ past. value_past w (cell slot (plain_setting f).field) f.value (subst (λ m. m ≤ cell slot (plain_setting f).field) e past) (h.0 f.value both.0)) (admitted_zero w count slot all e h.1 both.1)
 
 -- the slot that is filled is one of the relation's
 pub free_fits : (x : Context) (q : ℕ) (s : State) (slot : Slot) → first_where (is_free s) (slots x q) ≡ Some slot → SlotFits (all_at x.schema) (fields x q) slot

@@ -1,6 +1,7 @@
 -- The first of the phrases that a loop has left.
 use Rattle.std.proofs.Common.{◌≡◌, ℕ, ◌+◌, ◌<◌, ◌≤◌, ℤ, ◌+ℤ◌, ◌*ℤ◌, true, ◌&&◌, List, map, drop, get_or, length, sym, ap, ◌∙◌}
 use Rattle.std.proofs.lemmas.Bool.{and_parts}
+use Rattle.homeo_lemmas.proofs.Lists.{map_drop_past}
 use Rattle.homeo_syntax.specs.SourceView.{exprs, tests, plain_expr, plain_test}
 use Rattle.homeo_syntax.specs.declared.phrase.Expr.{Expr}
 use Rattle.homeo_syntax.specs.declared.phrase.Test.{Test}
@@ -9,7 +10,7 @@ use Rattle.homeo_meaning.specs.Meaning.{State, value, sum_value, product_value, 
 use Rattle.homeo_meaning.specs.Small.{is_small}
 use Rattle.homeo_eval.specs.inner.CanRun.{expr_fits, sum_fits, product_fits, test_fits, cond_fits}
 use Rattle.homeo_eval.proofs.Equations.{sum_end, sum_more, sum_fits_more, product_end, product_more, product_fits_more, holds_more, cond_fits_more}
-use Rattle.homeo_meaning.proofs.Steps.{drop_next, drop_none}
+use Rattle.homeo_meaning.proofs.Steps.{drop_next}
 
 -- one more term of a sum
 pub record SumStep (b : ℕ) (x : Context) (s : State) (n : ℤ) (es : List Expr) (i : ℕ) (e : Expr) : Type 0 where
@@ -26,7 +27,7 @@ sum_step {b} {x} {s} {n} es i e h p fits =
     record { first = k.0; small = m.0; rest = m.1; same = sym (sum_more x s n (plain_expr e) (map plain_expr (drop (i + 1) es))) ∙ ap (λ l. sum_value x (exprs l) s n) (sym next) }
 
 pub sum_stop : (x : Context) (s : State) (n : ℤ) (es : List Expr) (i : ℕ) → length es ≤ i → n ≡ sum_value x (exprs (map plain_expr (drop i es))) s n
-sum_stop x s n es i h = sym (ap (λ l. sum_value x (exprs l) s n) (drop_none plain_expr es i h) ∙ sum_end x s n)
+sum_stop x s n es i h = sym (ap (λ l. sum_value x (exprs l) s n) (map_drop_past plain_expr es i h) ∙ sum_end x s n)
 
 -- one more factor of a product
 pub record ProductStep (b : ℕ) (x : Context) (s : State) (n : ℤ) (es : List Expr) (i : ℕ) (e : Expr) : Type 0 where
@@ -43,7 +44,7 @@ product_step {b} {x} {s} {n} es i e h p fits =
     record { first = k.0; small = m.0; rest = m.1; same = sym (product_more x s n (plain_expr e) (map plain_expr (drop (i + 1) es))) ∙ ap (λ l. product_value x (exprs l) s n) (sym next) }
 
 pub product_stop : (x : Context) (s : State) (n : ℤ) (es : List Expr) (i : ℕ) → length es ≤ i → n ≡ product_value x (exprs (map plain_expr (drop i es))) s n
-product_stop x s n es i h = sym (ap (λ l. product_value x (exprs l) s n) (drop_none plain_expr es i h) ∙ product_end x s n)
+product_stop x s n es i h = sym (ap (λ l. product_value x (exprs l) s n) (map_drop_past plain_expr es i h) ∙ product_end x s n)
 
 -- one more test of a condition
 pub record TestStep (b : ℕ) (x : Context) (s : State) (ts : List Test) (i : ℕ) (t : Test) : Type 0 where

@@ -1,5 +1,7 @@
 use Rattle.std.proofs.Common.{All, ℤ, List, map, ◌++◌, take, sym, ap, subst, ◌∙◌}
 use Rattle.std.proofs.lemmas.List.{append-nil, take_all}
+use Rattle.std.proofs.lemmas.Simd.{map-map}
+use Rattle.homeo_lemmas.proofs.Lists.{map_take_more}
 use Rattle.homeo_syntax.specs.Key.{definitions as syntax_definitions}
 use Rattle.homeo_syntax.specs.SourceView.{plain_relation, plain_workload}
 use Rattle.homeo_meaning.specs.Key.{definitions}
@@ -10,7 +12,6 @@ use Rattle.homeo_context.specs.Placed.{HasSlots}
 use Rattle.homeo_context.proofs.Placing.{have_slots}
 use Rattle.homeo_meaning.proofs.Sound.{sound}
 use Rattle.homeo_eval.proofs.StartLists.{relation_next}
-use Rattle.homeo_meaning.proofs.TakenItems.{take_next, map_twice}
 use Rattle.homeo_eval.proofs.start.initial.Goals as goal
 
 pub loop-relation-init : goal.loop-relation-init
@@ -33,7 +34,7 @@ loop-relation-preserved c =
     let before : List ℤ = map (λ d. d.start.value) c.args.w.now.objects.items in
     let xs = c.as_slice-relation-items.result.now in
     relation_next before c.loop-relation.database.items c.start_relation.new.database.items (map (λ q. declared_relation (plain_relation q)) (take c.loop-relation.relation-index xs)) (declared_relation (plain_relation c.relation-item.result)) c.loop-relation.invariant c.in_ok-start_relation.ensures
-    ∙ ap (λ l. before ++ relation_starts l) (sym (take_next (λ q. declared_relation (plain_relation q)) xs c.loop-relation.relation-index c.relation-item.result c.loop-relation-test.true c.relation-item.is))
+    ∙ ap (λ l. before ++ relation_starts l) (sym (map_take_more (λ q. declared_relation (plain_relation q)) xs c.loop-relation.relation-index c.relation-item.result c.loop-relation-test.true c.relation-item.is))
 
 pub returns-clause-value : goal.returns-clause-value
 unfolding definitions syntax_definitions
@@ -41,7 +42,7 @@ returns-clause-value c =
     let before : List ℤ = map (λ d. d.start.value) c.args.w.now.objects.items in
     let items = c.as_slice-relation-items.ensures ∙ ap (λ w. w.relations.items) c.workload-workload.ensures.value in
     c.loop-relation.invariant
-    ∙ ap (λ l. before ++ relation_starts l) (ap (map (λ q. declared_relation (plain_relation q))) (take_all _ _ c.loop-relation-test.false ∙ items) ∙ sym (map_twice declared_relation plain_relation c.args.w.now.relations.items))
+    ∙ ap (λ l. before ++ relation_starts l) (ap (map (λ q. declared_relation (plain_relation q))) (take_all _ _ c.loop-relation-test.false ∙ items) ∙ sym (map-map declared_relation plain_relation c.args.w.now.relations.items))
 
 pub returns-clause-within : goal.returns-clause-within
 returns-clause-within c =
