@@ -3,6 +3,7 @@ use Rattle.std.proofs.Common.{◌≡◌, ℕ, zero, suc, List, [], ◌∷◌, ma
 use Rattle.std.specs.Prelude.{slice_get, is_some, IsSome}
 use Rattle.std.specs.Option.{option_and_then}
 use Rattle.std.specs.List.{flat_map}
+use Rattle.std.proofs.lemmas.Option.{same_Some}
 use Rattle.homeo_syntax.specs.Key.{definitions as syntax_definitions}
 use Rattle.homeo_syntax.specs.Source as s
 use Rattle.homeo_syntax.specs.WellFormed.{Each}
@@ -45,13 +46,10 @@ no_call : (P : SitedCall → Type 0) → Each P []
 unfolding syntax_definitions
 no_call P = tt
 
-same_item : {A : Type 0} (x y : A) → Some x ≡ Some y → x ≡ y
-same_item x y e = cc
-
 -- an item has no fault where none of the list has one
 none-at : {A : Type 0} (rule : A → List Fault) (xs : List A) (k : ℕ) (x : A) → flat_map rule xs ≡ [] → slice_get xs k ≡ Some x → rule x ≡ []
 none-at rule [] k x e at = cc
-none-at rule (y ∷ ys) zero x e at = ap rule (sym (same_item y x at)) ∙ none_first (rule y) (flat_map rule ys) e
+none-at rule (y ∷ ys) zero x e at = ap rule (sym (same_Some y x at)) ∙ none_first (rule y) (flat_map rule ys) e
 none-at rule (y ∷ ys) (suc k) x e at = none-at rule ys k x (none_second (rule y) (flat_map rule ys) e) at
 
 -- ---- calls

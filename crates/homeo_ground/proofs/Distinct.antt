@@ -1,11 +1,11 @@
 -- The place of a call among distinct ground calls to which others are put.
-use Rattle.std.proofs.Common.{◌≡◌, ℕ, ◌+◌, ℤ, Bool, true, false, ◌&&◌, ◌==◌, List, [], ◌∷◌, ◌++◌, map, refl, sym, ap, ◌∙◌, subst, append_assoc, arith}
+use Rattle.std.proofs.Common.{◌≡◌, ℕ, ◌+◌, ℤ, Bool, true, false, ◌&&◌, List, [], ◌∷◌, ◌++◌, map, refl, sym, ap, ◌∙◌, subst, append_assoc}
 use Rattle.std.specs.Prelude.{◌||◌, not, if◌then◌else◌}
 use Rattle.std.specs.Ordering.{int_eq}
 use Rattle.std.specs.List.{list_any, position_or_len, flat_map}
-use Rattle.std.proofs.lemmas.Int.{ints}
 use Rattle.std.proofs.lemmas.List.{map-append}
-use Rattle.std.proofs.lemmas.Bool.Decides.{nat_tests}
+use Rattle.homeo_lemmas.proofs.Integers.{int_itself}
+use Rattle.homeo_lemmas.proofs.Naturals.{nat_itself}
 use Rattle.homeo_syntax.specs.Source as s
 use Rattle.homeo_meaning.specs.Key.{definitions as meaning_definitions}
 use Rattle.homeo_meaning.specs.GlobalNames.{SitedCall, sited_calls_of}
@@ -13,21 +13,15 @@ use Rattle.homeo_meaning.specs.NumberRules.{same_numbers, same_ground, distinct_
 use Rattle.homeo_meaning.specs.CallPlaces.{place_among, places_among}
 
 -- ---- a call is the same ground call as itself
-int-same : (x : ℤ) → int_eq x x ≡ true
-int-same x = grind (arith, ints)
-
-nat-same : (n : ℕ) → (n == n) ≡ true
-nat-same n = grind (arith, nat_tests)
-
 numbers-same : (xs : List ℤ) → same_numbers xs xs ≡ true
 numbers-same [] = refl
-numbers-same (x ∷ xs) = ap (λ (b : Bool). b && same_numbers xs xs) (int-same x) ∙ numbers-same xs
+numbers-same (x ∷ xs) = ap (λ (b : Bool). b && same_numbers xs xs) (int_itself x) ∙ numbers-same xs
 
 pub ground-same : (c : SitedCall) → same_ground c c ≡ true
 unfolding meaning_definitions
 ground-same c =
-    ap (λ (b : Bool). (b && same_numbers c.args c.args) && int_eq c.site c.site) (nat-same c.name.name)
-    ∙ ap (λ (b : Bool). b && int_eq c.site c.site) (numbers-same c.args) ∙ int-same c.site
+    ap (λ (b : Bool). (b && same_numbers c.args c.args) && int_eq c.site c.site) (nat_itself c.name.name)
+    ∙ ap (λ (b : Bool). b && int_eq c.site c.site) (numbers-same c.args) ∙ int_itself c.site
 
 -- ---- places in lists to which items are put, under any test
 module _ {A : Type 0} (test : A → Bool) where

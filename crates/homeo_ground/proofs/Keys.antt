@@ -5,6 +5,7 @@ use Rattle.std.specs.Ordering.{int_eq}
 use Rattle.std.specs.List.{list_any, position_or_len}
 use Rattle.std.specs.Cmp.Lexicographic.{pointwise}
 use Rattle.std.proofs.lemmas.List.{map-append}
+use Rattle.homeo_lemmas.proofs.Bools.{and_assoc}
 use Rattle.homeo_meaning.specs.Key.{definitions as meaning_definitions}
 use Rattle.homeo_meaning.specs.GlobalNames as g
 use Rattle.homeo_meaning.specs.NumberRules.{same_numbers, same_ground, distinct_after}
@@ -24,15 +25,11 @@ same-numbers (x ∷ xs) (y ∷ ys) = ap (λ (b : Bool). int_eq x y && b) (same-n
 abbrev pub same_key : Key → Key → Bool
 same_key a b = (a.name == b.name) && (pointwise int_eq a.args.items b.args.items && int_eq a.site b.site)
 
-and-assoc : (a b c : Bool) → (a && (b && c)) ≡ ((a && b) && c)
-and-assoc true b c = refl
-and-assoc false b c = refl
-
 same-key : (a b : Key) → same_key a b ≡ same_ground (call_of a) (call_of b)
 unfolding meaning_definitions
 same-key a b =
     ap (λ (c : Bool). (a.name == b.name) && (c && int_eq a.site b.site)) (same-numbers a.args.items b.args.items)
-    ∙ and-assoc (a.name == b.name) (same_numbers a.args.items b.args.items) (int_eq a.site b.site)
+    ∙ and_assoc (a.name == b.name) (same_numbers a.args.items b.args.items) (int_eq a.site b.site)
 
 any-keys : (k : Key) (ks : List Key) → list_any (same_key k) ks ≡ list_any (same_ground (call_of k)) (map call_of ks)
 any-keys k [] = refl

@@ -5,6 +5,8 @@ use Rattle.std.specs.List.{list_any, flat_map}
 use Rattle.std.proofs.lemmas.Int.{ints}
 use Rattle.std.proofs.lemmas.List.{length-map}
 use Rattle.std.proofs.lemmas.Bool.Decides.{nat_tests}
+use Rattle.std.proofs.lemmas.List.Elements.{All-nil, All-cons}
+use Rattle.homeo_lemmas.proofs.Integers.{not_less}
 use Rattle.homeo_syntax.specs.Key.{definitions as syntax_definitions}
 use Rattle.homeo_syntax.specs.Source as s
 use Rattle.homeo_syntax.specs.WellFormed.{Each}
@@ -23,7 +25,6 @@ use Rattle.homeo_meaning.specs.declared.call.Purpose.TheVariants.{Run}
 use Rattle.homeo_meaning.specs.declared.rules.Fault.{Fault}
 use Rattle.homeo_meaning.specs.declared.rules.Phase.TheVariants.{Bounds, Limits}
 use Rattle.homeo_meaning.proofs.FaultParts.{none_first, none_second, NoFault, parts, declared_parts, NoLimitFault, limit_parts}
-use Rattle.homeo_meaning.proofs.SoundRules.{all_none, all_more}
 use Rattle.homeo_ground.specs.inner.Grounds.{IsSite}
 
 -- ---- as many as there may be
@@ -45,9 +46,6 @@ within most name before (x ∷ xs) e h =
     omega arith
 
 -- ---- sites
-not_less : (a b : ℤ) → int_lt a b ≡ false → b ≤ℤ a
-not_less a b h = grind (arith, ints)
-
 below : (a b : ℤ) → int_le a b ≡ false → a ≤ℤ pos 16 → pos 0 ≤ℤ b → IsSite b
 below a b h k z = (z, grind (arith, ints))
 
@@ -83,8 +81,8 @@ each-append P (x ∷ xs) ys h k = (h.0, each-append P xs ys h.1 k)
 
 pub all-each : {A : Type 0} (P : A → Type 0) (xs : List A) → Each P xs → All P xs
 unfolding syntax_definitions
-all-each P [] h = all_none P
-all-each P (x ∷ xs) h = all_more P x xs h.0 (all-each P xs h.1)
+all-each P [] h = All-nil P
+all-each P (x ∷ xs) h = All-cons P x xs h.0 (all-each P xs h.1)
 
 abbrev StandsAtSite : SitedCall → Type 0
 StandsAtSite c = IsSite c.site

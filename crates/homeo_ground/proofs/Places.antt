@@ -1,14 +1,15 @@
 -- Where a call's place stands in the table, and what stands at that place.
-use Rattle.std.proofs.Common.{◌≡◌, ℕ, zero, suc, ◌+◌, ◌-◌, ◌^◌, ◌<◌, ◌≤◌, ◌==◌, ◌&&◌, ℤ, Bool, true, false, Option, Some, None, List, [], ◌∷◌, map, length, get_or, Vec, Global, refl, sym, ap, ◌∙◌, subst, arith}
+use Rattle.std.proofs.Common.{◌≡◌, ℕ, zero, suc, ◌+◌, ◌-◌, ◌^◌, ◌<◌, ◌≤◌, ◌==◌, ◌&&◌, Bool, true, false, Option, Some, None, List, [], ◌∷◌, map, length, get_or, Vec, Global, refl, sym, ap, ◌∙◌, subst, arith}
 use Rattle.std.specs.Prelude.{◌||◌, not, if◌then◌else◌, slice_get, option_map, IsSome}
 use Rattle.std.specs.Option.{option_and_then}
 use Rattle.std.specs.Ordering.{int_eq}
 use Rattle.std.specs.List.{list_any, position_or_len, flat_map}
 use Rattle.std.proofs.lemmas.Bool.{false≢true}
-use Rattle.std.proofs.lemmas.Bool.Decides.{nat_tests}
-use Rattle.std.proofs.lemmas.Int.{ints}
 use Rattle.std.proofs.lemmas.Option.{slice_get-map, slice_get_read, slice_get_within, slice_get-get_or}
 use Rattle.std.proofs.lemmas.List.{length-map}
+use Rattle.homeo_lemmas.proofs.Bools.{and_first, and_second}
+use Rattle.homeo_lemmas.proofs.Integers.{int_is}
+use Rattle.homeo_lemmas.proofs.Naturals.{nat_is}
 use Rattle.homeo_syntax.specs.Source as s
 use Rattle.homeo_meaning.specs.Key.{definitions as meaning_definitions}
 use Rattle.homeo_meaning.specs.declared.call.CallId.{CallId}
@@ -23,37 +24,17 @@ use Rattle.homeo_meaning.specs.Serial.{numbered}
 use Rattle.homeo_ground.specs.Key.{definitions}
 use Rattle.homeo_ground.specs.Table.{GroundTable}
 use Rattle.homeo_meaning.specs.CallPlaces.{place_among, places_among}
+use Rattle.homeo_meaning.proofs.GroundCalls.{numbers_same}
 use Rattle.homeo_ground.specs.Grounding.{grounding, IsCallIn}
 use Rattle.homeo_ground.proofs.Distinct.{Known, all-known, known-first, known-second}
 
 -- ---- calls that are the same ground call have one ground call
-and_first : (a b : Bool) → (a && b) ≡ true → a ≡ true
-and_first true b h = refl
-and_first false b h = h
-
-and_second : (a b : Bool) → (a && b) ≡ true → b ≡ true
-and_second true b h = h
-and_second false b h = absurd (false≢true h)
-
-nat_is : (m n : ℕ) → (m == n) ≡ true → m ≡ n
-nat_is m n h = grind (arith, nat_tests)
-
-int_is : (a b : ℤ) → int_eq a b ≡ true → a ≡ b
-int_is a b h = grind (arith, ints)
-
-numbers_are : (xs ys : List ℤ) → same_numbers xs ys ≡ true → xs ≡ ys
-numbers_are [] [] h = refl
-numbers_are [] (y ∷ ys) h = absurd (false≢true h)
-numbers_are (x ∷ xs) [] h = absurd (false≢true h)
-numbers_are (x ∷ xs) (y ∷ ys) h =
-    λ i. int_is x y (and_first (int_eq x y) (same_numbers xs ys) h) i ∷ numbers_are xs ys (and_second (int_eq x y) (same_numbers xs ys) h) i
-
 ground-is : (w : s.Workload) (u v : SitedCall) → same_ground u v ≡ true → ground_of_sited w u ≡ ground_of_sited w v
 unfolding meaning_definitions
 ground-is w u v h =
     let body = and_first ((u.name.name == v.name.name) && same_numbers u.args v.args) (int_eq u.site v.site) h in
     let name : u.name.name ≡ v.name.name = nat_is u.name.name v.name.name (and_first (u.name.name == v.name.name) (same_numbers u.args v.args) body) in
-    let args : u.args ≡ v.args = numbers_are u.args v.args (and_second (u.name.name == v.name.name) (same_numbers u.args v.args) body) in
+    let args : u.args ≡ v.args = numbers_same u.args v.args (and_second (u.name.name == v.name.name) (same_numbers u.args v.args) body) in
     let site : u.site ≡ v.site = int_is u.site v.site (and_second ((u.name.name == v.name.name) && same_numbers u.args v.args) (int_eq u.site v.site) h) in
     λ i. record { transaction = place_of (map (λ (t : s.Transaction). t.name.name) w.transactions) (name i); args = args i; site = nat_of (site i) }
 

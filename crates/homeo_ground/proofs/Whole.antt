@@ -2,6 +2,7 @@
 use Rattle.std.proofs.Common.{◌≡◌, ℕ, ◌^◌, ◌<◌, ◌≤◌, List, [], ◌∷◌, map, length, All, sym, ap, ◌∙◌, subst, arith}
 use Rattle.std.specs.List.{flat_map}
 use Rattle.std.proofs.lemmas.List.{length-map}
+use Rattle.std.proofs.lemmas.List.Elements.{All-nil, All-cons, All-head, All-tail}
 use Rattle.homeo_syntax.specs.Key.{definitions as syntax_definitions}
 use Rattle.homeo_syntax.specs.SourceView.{plain_client, plain_workload}
 use Rattle.homeo_syntax.specs.declared.workload.Client.{Client}
@@ -13,7 +14,6 @@ use Rattle.homeo_meaning.specs.Declarations.{Declarations, declarations}
 use Rattle.homeo_meaning.specs.Ground.{Ground, plain_ground, ground_of_sited, grounds}
 use Rattle.homeo_meaning.specs.GlobalNames.{SitedCall, sited_calls_of}
 use Rattle.homeo_meaning.specs.NumberRules.{distinct_after, ground_calls}
-use Rattle.homeo_meaning.proofs.SoundRules.{all_none, all_more, all_head, all_tail}
 use Rattle.homeo_ground.specs.Key.{definitions}
 use Rattle.homeo_ground.specs.Sited.{sited}
 use Rattle.homeo_ground.specs.inner.Grounds.{ground_by, IsSite}
@@ -23,8 +23,8 @@ use Rattle.homeo_ground.specs.declared.sited.SitedCall.{SitedCall as Held}
 use Rattle.homeo_ground.proofs.Limits.{limited}
 
 all_unmapped : {A B : Type 0} (f : A → B) (P : B → Type 0) (xs : List A) → All P (map f xs) → All (λ (x : A). P (f x)) xs
-all_unmapped {A} f P [] h = let Q : A → Type 0 = λ x. P (f x) in all_none Q
-all_unmapped {A} f P (x ∷ xs) h = let Q : A → Type 0 = λ x. P (f x) in all_more Q x xs (all_head P (f x) (map f xs) h) (all_unmapped f P xs (all_tail P (f x) (map f xs) h))
+all_unmapped {A} f P [] h = let Q : A → Type 0 = λ x. P (f x) in All-nil Q
+all_unmapped {A} f P (x ∷ xs) h = let Q : A → Type 0 = λ x. P (f x) in All-cons Q x xs (All-head P (f x) (map f xs) h) (all_unmapped f P xs (All-tail P (f x) (map f xs) h))
 
 -- the workload, the places of its names, and the distinct calls in the code
 module _ (workload : Workload) (accepted : IsAccepted (plain_workload workload)) (names : Declarations) (named : names ≡ declarations (plain_workload workload)) (calls : List Held) (calls_are : map sited calls ≡ ground_calls (plain_workload workload)) where
