@@ -1,7 +1,7 @@
 -- The definitions along the code's lists, as equations, which code rewrites by.
-use Rattle.std.proofs.Common.{false, ◌≡◌, ℕ, zero, suc, ◌+◌, ◌-◌, ◌<◌, ◌≤◌, pos, List, [], ◌∷◌, map, drop, get_or, length, refl, sym, ap, ◌∙◌, arith, add-one, drop_of_length-le}
-use Rattle.std.proofs.lemmas.List.{length-map}
-use Rattle.std.proofs.Math.Seq.{drop-cons}
+use Rattle.std.proofs.Common.{false, ◌≡◌, ℕ, zero, suc, ◌+◌, ◌-◌, ◌<◌, ◌≤◌, pos, List, [], ◌∷◌, map, drop, get_or, length, refl, sym, ap, ◌∙◌, arith}
+use Rattle.std.proofs.lemmas.List.{drop_more}
+use Rattle.homeo_lemmas.proofs.Lists.{drop_past, length_map, map_drop_past}
 use Rattle.homeo_syntax.specs.Key.{definitions as syntax_definitions}
 use Rattle.homeo_syntax.specs.Source as s
 use Rattle.homeo_syntax.specs.SourceView.{plain_expr, plain_field}
@@ -28,20 +28,10 @@ use Rattle.homeo_size.specs.declared.extents.Kept.{Kept}
 use Rattle.homeo_size.specs.declared.frame.Frame.{Frame}
 use Rattle.homeo_size.specs.declared.measures.Before.{Before}
 
--- the list that is left begins with the item that is next
-pub item_next : {A : Type 0} (xs : List A) (i : ℕ) (d : A) → i < length xs → drop i xs ≡ get_or xs i d ∷ drop (i + 1) xs
-item_next xs i d h = rw add-one (drop-cons xs i d h)
-
-pub item_none : {A : Type 0} (xs : List A) (i : ℕ) → length xs ≤ i → drop i xs ≡ []
-item_none xs i h = drop_of_length-le xs h
-
 pub map_next : {A B : Type 0} (f : A → B) (xs : List A) (i : ℕ) (d : A) → i < length xs → map f (drop i xs) ≡ f (get_or xs i d) ∷ map f (drop (i + 1) xs)
-map_next f xs i d h = ap (map f) (item_next xs i d h)
+map_next f xs i d h = ap (map f) (drop_more xs i d h)
 
-pub map_none : {A B : Type 0} (f : A → B) (xs : List A) (i : ℕ) → length xs ≤ i → map f (drop i xs) ≡ []
-map_none f xs i h = ap (map f) (item_none xs i h)
-
-pub ruleset items = (item_next, item_none, map_next, map_none)
+pub ruleset items = (drop_more, drop_past, map_next, map_drop_past)
 
 pub plain_place : (s : Spot') → (plain_spot s).place ≡ s.place
 unfolding meaning_definitions
@@ -74,10 +64,7 @@ length_slots t = slots_counted 0 t.first (map declared_range t.fields.now) t.cou
 pub no_slots : (t : Slots) → t.count ≡ 0 → slots_of t ≡ []
 no_slots t h = sym (left_all t) ∙ left_none t 0 (omega arith)
 
-pub length_mapped : {A B : Type 0} (f : A → B) (xs : List A) → length (map f xs) ≡ length xs
-length_mapped f xs = length-map xs f
-
-pub ruleset lengths = (length_mapped, length_slots, no_slots)
+pub ruleset lengths = (length_map, length_slots, no_slots)
 
 -- ---- changes
 pub restored_end : (z : Store) → restored [] z ≡ z

@@ -50,12 +50,6 @@ max_zero n = omega (arith, clamps)
 pub zero_max : (n : ℕ) → max 0 n ≡ n
 zero_max n = omega (arith, clamps)
 
-pub plus_zero : (n : ℕ) → n + 0 ≡ n
-plus_zero n = omega arith
-
-pub zero_plus : (n : ℕ) → 0 + n ≡ n
-zero_plus n = omega arith
-
 pub plus_assoc : (a b c : ℕ) → (a + b) + c ≡ a + (b + c)
 plus_assoc a b c = omega arith
 

@@ -1,5 +1,6 @@
 -- One more command is measured, and a delete.
 use Rattle.std.proofs.Common.{◌≡◌, ℕ, ◌+◌, ◌<◌, Bool, false, ◌||◌, List, ◌∷◌, drop, get_or, length, map, pos, sym, ap, ◌∙◌}
+use Rattle.std.proofs.lemmas.List.{drop_more}
 use Rattle.homeo_syntax.specs.Source as s
 use Rattle.homeo_syntax.specs.SourceView.{commands, plain_cond, plain_command}
 use Rattle.homeo_syntax.specs.declared.phrase.Cond.{Cond}
@@ -18,12 +19,11 @@ use Rattle.homeo_size.specs.inner.Store.{Store, closed, visited}
 use Rattle.homeo_size.specs.declared.extent.Extent.{Extent}
 use Rattle.homeo_size.specs.declared.measures.Before.{Before}
 use Rattle.homeo_size.specs.declared.measures.Measure.{Measure}
-use Rattle.homeo_size.proofs.Along.{item_next}
 use Rattle.homeo_size.proofs.Equations.{after_more, measured_more, visited_more, visits_more, measured_Delete}
 
 -- the commands that are left begin with the one that is next
 front : (cs : List Command) (i : ℕ) (d c : Command) → i < length cs → c ≡ get_or cs i d → commands (map plain_command (drop i cs)) ≡ commands (plain_command c ∷ map plain_command (drop (i + 1) cs))
-front cs i d c h is = ap (λ l. commands (map plain_command l)) (item_next cs i d h) ∙ ap (λ e. commands (plain_command e ∷ map plain_command (drop (i + 1) cs))) (sym is)
+front cs i d c h is = ap (λ l. commands (map plain_command l)) (drop_more cs i d h) ∙ ap (λ e. commands (plain_command e ∷ map plain_command (drop (i + 1) cs))) (sym is)
 
 -- the store behind a command, and whether the next is guarded
 module _ (x : Setting) (cs : List Command) (i : ℕ) (d c : Command) (h : i < length cs) (is : c ≡ get_or cs i d) (g g' : Bool) (n : ℕ) (y y1 y2 : Store) (left : y1 ≡ after x (plain_command c) y) (at : n ≡ length y.log) (ends : y2 ≡ guard_after g n y1) (more : g' ≡ (g || holds_abort (plain_command c))) where

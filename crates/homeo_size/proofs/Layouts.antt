@@ -1,6 +1,9 @@
 -- What the objects of declarations weigh, declaration by declaration.
 use Rattle.std.proofs.Common.{◌≡◌, ℕ, zero, suc, ◌+◌, ◌-◌, ◌<◌, ◌≤◌, max, List, [], ◌∷◌, ◌++◌, map, drop, get_or, length, ℤ, refl, sym, ap, ap₂, ◌∙◌, arith, append-nil, append_assoc}
 use Rattle.std.proofs.lemmas.Int.{clamps}
+use Rattle.std.proofs.lemmas.List.{map-append}
+use Rattle.std.proofs.lemmas.Simd.{map-map}
+use Rattle.homeo_lemmas.proofs.Lists.{map_drop_past}
 use Rattle.homeo_syntax.specs.Key.{definitions as syntax_definitions}
 use Rattle.homeo_syntax.specs.SourceView.{plain_relation, plain_workload}
 use Rattle.homeo_syntax.specs.declared.workload.ObjectDecl.{ObjectDecl}
@@ -11,11 +14,10 @@ use Rattle.homeo_meaning.specs.Key.{definitions as meaning_definitions}
 use Rattle.homeo_meaning.specs.Bounds.{Bounds, slot_bounds, relation_bounds, bounds_of, all_bounds}
 use Rattle.homeo_meaning.specs.Schema.{Declared, Schema, declared_object, declared_range, declared_relation, schema_of}
 use Rattle.homeo_meaning.specs.LowWeights.{number_weight}
-use Rattle.homeo_meaning.proofs.TakenItems.{map_twice}
 use Rattle.homeo_size.specs.inner.Key.{definitions}
 use Rattle.homeo_size.specs.inner.Laid.{relation_of, capped_weight, range_weight, object_weight, AreWeights}
 use Rattle.homeo_size.specs.inner.Numbers.{weight_cap}
-use Rattle.homeo_size.proofs.Along.{map_next, map_none}
+use Rattle.homeo_size.proofs.Along.{map_next}
 
 pub larger : (lo hi : ℤ) → capped_weight (record { lo = lo; hi = hi }) ≡ max (weight_cap (number_weight lo)) (weight_cap (number_weight hi))
 unfolding definitions meaning_definitions
@@ -23,10 +25,6 @@ larger lo hi = go (number_weight lo) (number_weight hi)
   where
     go : (m n : ℕ) → weight_cap (max m n) ≡ max (weight_cap m) (weight_cap n)
     go m n = omega (arith, clamps)
-
-map_both : {A B : Type 0} (f : A → B) (xs ys : List A) → map f (xs ++ ys) ≡ map f xs ++ map f ys
-map_both f [] ys = refl
-map_both f (x ∷ xs) ys = ap (λ l. f x ∷ l) (map_both f xs ys)
 
 -- ---- weights
 fields_weighed : (fields : List RangeDecl) (more : List Bounds) → map capped_weight (map bounds_of (map declared_range fields) ++ more) ≡ map range_weight fields ++ map capped_weight more
@@ -63,14 +61,14 @@ relation_weighed rs i d r count fields old new whole h p c f n q =
     let more : List Bounds = relation_bounds (map relation_of (drop (i + 1) rs)) in
     ap (λ l. l ++ map capped_weight more) n
     ∙ append_assoc old (map capped_weight (slot_bounds count (map declared_range fields))) (map capped_weight more)
-    ∙ ap (λ l. old ++ l) (sym (map_both capped_weight (slot_bounds count (map declared_range fields)) more) ∙ (λ j. map capped_weight (slot_bounds (c j) (map declared_range (f j)) ++ more)))
+    ∙ ap (λ l. old ++ l) (sym (map-append capped_weight (slot_bounds count (map declared_range fields)) more) ∙ (λ j. map capped_weight (slot_bounds (c j) (map declared_range (f j)) ++ more)))
     ∙ ap (λ l. old ++ map capped_weight (relation_bounds l)) (sym (relation_next rs i d r h p))
     ∙ q
 
 pub relations_weighed : (rs : List RelationDecl) (i : ℕ) (old whole : List ℕ) → length rs ≤ i → old ++ map capped_weight (relation_bounds (map relation_of (drop i rs))) ≡ whole → old ≡ whole
 unfolding meaning_definitions
 relations_weighed rs i old whole h q =
-    sym (append-nil old) ∙ ap (λ l. old ++ map capped_weight (relation_bounds l)) (sym (map_none relation_of rs i h)) ∙ q
+    sym (append-nil old) ∙ ap (λ l. old ++ map capped_weight (relation_bounds l)) (sym (map_drop_past relation_of rs i h)) ∙ q
 
 -- ---- all objects
 objects_weighed : (objects : List ObjectDecl) (more : List Bounds) → map object_weight objects ++ map capped_weight more ≡ map capped_weight (map bounds_of (map declared_object objects) ++ more)
@@ -82,6 +80,6 @@ pub all_weighed : (w : Workload) (x : Schema) (objects : List ObjectDecl) (rs : 
 unfolding syntax_definitions meaning_definitions
 all_weighed w x objects rs begun weights e o r b h =
     h
-    ∙ (λ i. (b ∙ ap (map object_weight) o) i ++ map capped_weight (relation_bounds ((ap (map relation_of) r ∙ sym (map_twice declared_relation plain_relation w.relations.items)) i)))
+    ∙ (λ i. (b ∙ ap (map object_weight) o) i ++ map capped_weight (relation_bounds ((ap (map relation_of) r ∙ sym (map-map declared_relation plain_relation w.relations.items)) i)))
     ∙ objects_weighed w.objects.items (relation_bounds (schema_of (plain_workload w)).relations)
     ∙ ap (λ x. map capped_weight (all_bounds x)) (sym e)

@@ -7,6 +7,7 @@ use Rattle.homeo_meaning.specs.Key.{definitions as meaning_definitions}
 use Rattle.homeo_meaning.specs.Context.{Spot, Slot, Context, spot, cell, field_cell, slots, fields, bind, slot_at}
 use Rattle.homeo_meaning.specs.LowMeaning.{TempAt, BaseAt, put, same_location}
 use Rattle.homeo_meaning.specs.LForm.{Lifted, Made, AllMade, read, fresh, equal, name_of, read_chain, read_slot, literal_of, indexed_by, visits, counted, lift, lift_all, lift_test, lift_cond}
+use Rattle.homeo_lform.proofs.Written.{name_literal}
 use Rattle.homeo_size.specs.inner.Key.{definitions}
 use Rattle.homeo_size.specs.inner.Parts.{literal, nothing, no_factor, beside, plus, times, around, summed, compared, greater, empty, valued, chosen, with_one}
 use Rattle.homeo_size.specs.inner.Sizing.{Sizes, Setting, name_sized, slot_sized, chain_sized, chain_measured, field_sized, field_lifted, missing, missing_at, literal_in, term_sized, added, total_sized, used_test, total_measured, sized, sum_sized, product_sized, test_sized, tests_sized, lifted, all_lifted, test_lifted, tests_lifted}
@@ -18,11 +19,6 @@ use Rattle.homeo_size.proofs.Lifting.{seen, at_fresh, Alike, Lifts, after_both, 
 use Rattle.homeo_size.proofs.Low.{Extents, low_sized, low_sum, low_product, low_test, low_tests, low_cond, low_after, low_after_all, low_measured, low_measured_all}
 
 -- ---- literals
-name_literal : (o : Option ℤ) (x : ℕ) → literal_of (name_of o x) ≡ o
-unfolding meaning_definitions
-name_literal (Some v) x = refl
-name_literal None x = refl
-
 slot_literal : (f : Spot) (o : Option Slot) → literal_of (read_slot f o) ≡ missing o
 unfolding definitions meaning_definitions
 slot_literal f (Some slot) = refl

@@ -2,6 +2,7 @@
 use Rattle.std.proofs.Common.{◌≡◌, ℕ, suc, Bool, true, false, ◌||◌, ◌+◌, ◌*◌, ◌≤◌, List, [], ◌∷◌, length, ℤ, pos, Option, Some, None, refl, sym, ap, ap₂, ◌∙◌, subst, arith}
 use Rattle.std.proofs.Math.Nat.{mul-le-mul_left}
 use Rattle.std.proofs.lemmas.Int.{clamps}
+use Rattle.homeo_lemmas.proofs.Naturals.{plus_assoc}
 use Rattle.homeo_syntax.specs.declared.low.Temp.TheVariants as temp
 use Rattle.homeo_syntax.specs.declared.low.SplitName.TheVariants as split
 use Rattle.homeo_syntax.specs.Low as L
@@ -65,10 +66,7 @@ of_both L.NoCommand ds = zero_plus (of_commands ds)
   where
     zero_plus : (n : ℕ) → n ≡ 0 + n
     zero_plus n = omega arith
-of_both (L.MoreCommand c cs) ds = ap (λ n. of_command c + n) (of_both cs ds) ∙ assoc (of_command c) (of_commands cs) (of_commands ds)
-  where
-    assoc : (a b c : ℕ) → a + (b + c) ≡ (a + b) + c
-    assoc a b c = omega arith
+of_both (L.MoreCommand c cs) ds = ap (λ n. of_command c + n) (of_both cs ds) ∙ plus_assoc (of_command c) (of_commands cs) (of_commands ds)
 
 -- a command with those of a lifting before it
 of_front : (cs : L.Commands) (c : L.Command) → of_commands cs + of_command c ≤ of_command (in_front cs c)

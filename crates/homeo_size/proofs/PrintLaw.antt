@@ -1,6 +1,7 @@
 -- The count of print commands is that of the L form: liftings print nothing, and a loop's body stands once for each slot.
-use Rattle.std.proofs.Common.{◌≡◌, ℕ, suc, Bool, true, false, ◌||◌, ◌+◌, ◌*◌, List, [], ◌∷◌, length, ℤ, pos, Option, Some, None, refl, sym, ap, ap₂, ◌∙◌, arith}
+use Rattle.std.proofs.Common.{◌≡◌, ℕ, suc, Bool, true, false, ◌||◌, ◌+◌, ◌*◌, List, [], ◌∷◌, length, ℤ, pos, Option, Some, None, refl, sym, ap, ap₂, ◌∙◌, arith, zero-add, mul-zero}
 use Rattle.std.proofs.lemmas.Int.{clamps}
+use Rattle.homeo_lemmas.proofs.Naturals.{suc_times}
 use Rattle.homeo_syntax.specs.declared.low.Temp.TheVariants as temp
 use Rattle.homeo_syntax.specs.declared.low.SplitName.TheVariants as split
 use Rattle.homeo_syntax.specs.Low as L
@@ -17,12 +18,9 @@ use Rattle.homeo_size.specs.inner.Prints.{print_cap, prints, all_prints}
 use Rattle.homeo_size.specs.inner.Sizing.{Setting}
 use Rattle.homeo_size.proofs.Caps.{cap_sum, cap_product}
 
-zero_plus : (n : ℕ) → 0 + n ≡ n
-zero_plus n = omega arith
-
 both_print : (cs ds : L.Commands) → prints_in_all (both cs ds) ≡ prints_in_all cs + prints_in_all ds
 unfolding meaning_definitions
-both_print L.NoCommand ds = sym (zero_plus (prints_in_all ds))
+both_print L.NoCommand ds = sym (zero-add (prints_in_all ds))
 both_print (L.MoreCommand c cs) ds = let e = both_print cs ds in omega (arith, e)
 
 front_prints : (cs : L.Commands) (c : L.Command) → prints_in_all cs ≡ 0 → prints_in (in_front cs c) ≡ prints_in c
@@ -55,10 +53,6 @@ unfolding meaning_definitions
 indexed_quiet (Some v) all f x h = refl
 indexed_quiet None all f x h = stored_quiet x.before (read_chain f x.phrase x.next all) h (read_chain_quiet f x.phrase x.next all)
 
--- the visits of slots, each of whose bodies prints so much
-more_prints : (l p : ℕ) → suc l * p ≡ p + l * p
-more_prints l p = omega arith
-
 turn_prints : (g : Bool) (before : L.Commands) (c : L.Command) (more : L.Commands) → prints_in_all before ≡ 0 → prints_in_all (form.in_turn g before c more) ≡ prints_in c + prints_in_all more
 unfolding meaning_definitions
 turn_prints true before c more h = let e = front_prints before c h in omega (arith, e)
@@ -80,17 +74,14 @@ visits_print g later test body p h k (slot ∷ more) m =
     let rest = visits_print later later test body p h k more c.next in
     let e = turn_prints g b.before if_else others (h slot m) in
     let one' = k slot b.next in
-    let s = more_prints (length more) p in
+    let s = suc_times (length more) p in
     omega (arith, rest, e, one', s)
-
-no_prints : (l : ℕ) → l * 0 ≡ 0
-no_prints l = omega arith
 
 counted_quiet : (test : Slot → ℕ → Lifted L.Cond) (term : Slot → L.Expr) (all : List Slot) (n : ℕ) → ((slot : Slot) (m : ℕ) → Quiet (test slot m)) → Quiet (counted test term all n)
 unfolding meaning_definitions
 counted_quiet test term all n h =
     let v = visits_print false false test (λ slot m. record { command = L.Assign (temp.Fresh n) (L.Sum (L.MoreExpr (fresh n) (L.MoreExpr (term slot) L.NoExpr))); next = m }) 0 h (λ slot m. refl) all (suc n) in
-    let z = no_prints (length all) in
+    let z = mul-zero (length all) in
     omega (arith, v, z)
 
 mutual
@@ -174,7 +165,7 @@ insert_quiet w ds fs all t n =
 loop_quiet : (w : Context) (r q : ℕ) (c : Cond) (body : Slot → ℕ → Made) (n : ℕ) → ((slot : Slot) (m : ℕ) → prints_in (body slot m).command ≡ 0) → prints_in (form.loop w r q c false body n).command ≡ 0
 unfolding meaning_definitions
 loop_quiet w r q c body n h =
-    visits_print false false (λ slot. lift_cond (bind w r slot) c) body 0 (λ slot m. cond_quiet (bind w r slot) c m) h (slots w q) n ∙ no_prints (length (slots w q))
+    visits_print false false (λ slot. lift_cond (bind w r slot) c) body 0 (λ slot m. cond_quiet (bind w r slot) c m) h (slots w q) n ∙ mul-zero (length (slots w q))
 
 -- ---- all commands, where x has the slots of the context
 module _ (x : Setting) where
@@ -247,11 +238,11 @@ module _ (x : Setting) where
     command_capped (Write o e) = refl
     command_capped (Print e) = refl
     command_capped (If b c d) = ap₂ (λ k l. print_cap (k + l)) (command_capped c) (command_capped d) ∙ cap_sum 1000001 (exact c) (exact d)
-    command_capped (Block cs) = commands_capped cs 0 ∙ ap print_cap (zero_plus (exact_all cs))
+    command_capped (Block cs) = commands_capped cs 0 ∙ ap print_cap (zero-add (exact_all cs))
     command_capped (SetField q i f e) = refl
     command_capped (SetRow r f e) = refl
     command_capped (Foreach r q c cs) =
-        ap (λ k. print_cap (length (x.slots q.name) * k)) (commands_capped cs 0 ∙ ap print_cap (zero_plus (exact_all cs)))
+        ap (λ k. print_cap (length (x.slots q.name) * k)) (commands_capped cs 0 ∙ ap print_cap (zero-add (exact_all cs)))
         ∙ capped_product (length (x.slots q.name)) (exact_all cs)
     command_capped (Insert q fs t) = refl
     command_capped (Delete r q c) = refl
@@ -299,4 +290,4 @@ module _ (x : Setting) where
 
   pub body_prints : (w : Context) (h : HasSlots w) (cs : Commands) → all_prints x cs 0 ≡ print_cap (prints_in (form.body_by (hold_abort cs) w cs))
   unfolding definitions meaning_definitions
-  body_prints w h cs = commands_capped cs 0 ∙ ap print_cap (zero_plus (exact_all cs) ∙ sym (body_exact w h (hold_abort cs) cs))
+  body_prints w h cs = commands_capped cs 0 ∙ ap print_cap (zero-add (exact_all cs) ∙ sym (body_exact w h (hold_abort cs) cs))

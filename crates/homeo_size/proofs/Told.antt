@@ -1,5 +1,5 @@
 -- The pass over an L form tells its extents, its weights and its rows.
-use Rattle.std.proofs.Common.{◌≡◌, ℕ, ◌+◌, ◌*◌, max, Bool, true, false, cond, refl, sym, ap, ap₂, ◌∙◌, arith}
+use Rattle.std.proofs.Common.{◌≡◌, ℕ, ◌+◌, ◌*◌, max, Bool, true, false, cond, refl, sym, ap, ap₂, ◌∙◌, arith, add-zero, zero-add}
 use Rattle.std.proofs.Math.Nat.{mul_assoc, one-mul, mul-one}
 use Rattle.std.proofs.lemmas.Int.{clamps}
 use Rattle.homeo_syntax.specs.Low.{Expr, Exprs, Literal, OfTemp, Read, Sum, Product, Neg, NoExpr, MoreExpr, Test, Cond, True, Not, Comparison, NoTest, MoreTest, Command, Commands, Skip, Assign, Write, Print, Seq, If, NoCommand, MoreCommand}
@@ -15,7 +15,7 @@ use Rattle.homeo_size.specs.inner.Parts.{beside, plus, times, around, summed, gr
 use Rattle.homeo_size.specs.declared.extent.Extent.{Extent}
 use Rattle.homeo_size.specs.declared.measures.Before.{Before}
 use Rattle.homeo_size.specs.declared.measures.Measure.{Measure}
-use Rattle.homeo_size.proofs.Caps.{cap_sum, cap_max, cap_more, cap_plus, cap_product, max_zero, zero_max, plus_zero, zero_plus, plus_assoc, max_assoc}
+use Rattle.homeo_size.proofs.Caps.{cap_sum, cap_max, cap_more, cap_plus, cap_product, max_zero, zero_max, plus_assoc, max_assoc}
 use Rattle.homeo_size.proofs.Heaviest.{heaviest_test, heaviest_tests, heaviest, heaviest_all}
 use Rattle.homeo_size.proofs.Low.{Extents, low_sized, low_sum, low_product, low_test, low_tests, low_cond, low_after, low_after_all, low_measured, low_measured_all}
 
@@ -61,10 +61,10 @@ told_same : (a b : low.Extent) (m n : ℕ) → a ≡ b → m ≡ n → told a m 
 told_same a b m n p q = λ i. told (p i) (q i)
 
 beside_nothing : (a : low.Extent) → low.beside a (low.flat 0) ≡ a
-beside_nothing a = λ i. record { size = plus_zero a.size i; depth = max_zero a.depth i }
+beside_nothing a = λ i. record { size = add-zero a.size i; depth = max_zero a.depth i }
 
 nothing_beside : (a : low.Extent) → low.beside (low.flat 0) a ≡ a
-nothing_beside a = λ i. record { size = zero_plus a.size i; depth = zero_max a.depth i }
+nothing_beside a = λ i. record { size = zero-add a.size i; depth = zero_max a.depth i }
 
 beside_assoc : (a b c : low.Extent) → low.beside (low.beside a b) c ≡ low.beside a (low.beside b c)
 beside_assoc a b c = λ i. record { size = plus_assoc a.size b.size c.size i; depth = max_assoc a.depth b.depth c.depth i }
@@ -128,7 +128,7 @@ mutual
   expr_told (OfTemp t) v e w h = h (TempAt t)
   expr_told (Read o) v e w h = h (location_of o)
   expr_told (Sum es) v e w h =
-      ap summed (sum_told es v e w h (low.flat 0) 0 ∙ told_same (low.beside (low.flat 0) (extent_all es e)) (extent_all es e) (0 + sum_weight es w) (sum_weight es w) (nothing_beside (extent_all es e)) (zero_plus (sum_weight es w)))
+      ap summed (sum_told es v e w h (low.flat 0) 0 ∙ told_same (low.beside (low.flat 0) (extent_all es e)) (extent_all es e) (0 + sum_weight es w) (sum_weight es w) (nothing_beside (extent_all es e)) (zero-add (sum_weight es w)))
       ∙ told_summed (extent_all es e) (sum_weight es w)
   expr_told (Product es) v e w h =
       ap around (product_told es v e w h (low.flat 0) 1 ∙ told_same (low.beside (low.flat 0) (extent_all es e)) (extent_all es e) (1 * product_weight es w) (product_weight es w) (nothing_beside (extent_all es e)) (one-mul (product_weight es w)))
@@ -136,7 +136,7 @@ mutual
   expr_told (Neg x) v e w h = ap around (expr_told x v e w h) ∙ told_around (extent x e) (weight x w)
 
   sum_told : (es : Exprs) (v : Extents) (e : Location → low.Extent) (w : Location → ℕ) → Tells v e w → (a : low.Extent) (m : ℕ) → low_sum es v (told a m) ≡ told (low.beside a (extent_all es e)) (m + sum_weight es w)
-  sum_told NoExpr v e w h a m = told_same a (low.beside a (low.flat 0)) m (m + 0) (sym (beside_nothing a)) (sym (plus_zero m))
+  sum_told NoExpr v e w h a m = told_same a (low.beside a (low.flat 0)) m (m + 0) (sym (beside_nothing a)) (sym (add-zero m))
   sum_told (MoreExpr x es) v e w h a m =
       ap (low_sum es v) (ap (plus (told a m)) (expr_told x v e w h) ∙ told_plus a (extent x e) m (weight x w))
       ∙ sum_told es v e w h (low.beside a (extent x e)) (m + weight x w)
