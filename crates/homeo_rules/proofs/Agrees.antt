@@ -5,6 +5,7 @@ use Rattle.std.proofs.lemmas.List.{length-set}
 use Rattle.std.proofs.lemmas.List.Concat.{flat_map-append}
 use Rattle.std.proofs.lemmas.Bool.Decides.{nat_tests}
 use Rattle.std.proofs.lemmas.List.Folds.{list_any-append}
+use Rattle.homeo_lemmas.proofs.Bools.{or_nothing, or_true}
 use Rattle.homeo_meaning.specs.Key.{definitions as meaning_definitions}
 use Rattle.homeo_meaning.specs.Bindings.{Row, Scope, binding, item_or, row_or, local_binding, row_relation}
 use Rattle.homeo_meaning.specs.Occurrences.{Mark, Occurrence, DeclaresRow, TakesObject, TakesRelation, TakesValue, TakesField, NamesField, FillsFields, Assigns}
@@ -35,10 +36,6 @@ or-false true c = refl
 or-false false true = refl
 or-false false false = refl
 
-pub or_true : (b : Bool) → (b || true) ≡ true
-or_true true = refl
-or_true false = refl
-
 pub in_more : (ts : List ℕ) (n m : ℕ) → is_in m (ts ++ n ∷ []) ≡ (is_in m ts || (n == m))
 unfolding definitions meaning_definitions
 in_more ts n m = list_any-append (λ k. k == m) ts (n ∷ []) ∙ or-false (list_any (λ k. k == m) ts) (n == m)
@@ -50,16 +47,12 @@ local-is : (ps ts : List ℕ) (m : ℕ) → local_of ps ts m ≡ kind_of (is_in 
 unfolding definitions meaning_definitions
 local-is ps ts m = refl
 
-pub or-nothing : (b : Bool) → b ≡ (b || false)
-or-nothing true = refl
-or-nothing false = refl
-
 in_again : (ts : List ℕ) (n m : ℕ) → is_in n ts ≡ true → (b : Bool) → (n == m) ≡ b → is_in m ts ≡ (is_in m ts || b)
 in_again ts n m h true e =
     let same : n ≡ m = grind (arith, nat_tests) in
     let there : is_in m ts ≡ true = subst (λ k. is_in k ts ≡ true) same h in
     there ∙ sym (ap (λ c. c || true) there)
-in_again ts n m h false e = or-nothing (is_in m ts)
+in_again ts n m h false e = or_nothing (is_in m ts)
 
 -- one more of a name that is there
 again : (ps ts : List ℕ) (n m : ℕ) → is_in n ts ≡ true → local_of ps ts m ≡ local_of ps (ts ++ n ∷ []) m
@@ -78,7 +71,7 @@ new_case l ps ts n lt h agree m true e =
     ∙ sym (ap (λ c. kind_of (is_in m ps) c) (or_true (is_in m ts)) ∙ ap (λ c. kind_of c true) out)
 new_case l ps ts n lt h agree m false e =
     let other : m ≢ n = grind (arith, nat_tests) in
-    get_or-set_other l n m L.Temporary L.Absent other ∙ agree m ∙ local-is ps ts m ∙ ap (kind_of (is_in m ps)) (or-nothing (is_in m ts))
+    get_or-set_other l n m L.Temporary L.Absent other ∙ agree m ∙ local-is ps ts m ∙ ap (kind_of (is_in m ps)) (or_nothing (is_in m ts))
 
 new_one : (l : List Local) (ps ts : List ℕ) (n : ℕ) → n < length l → is_in n ps ≡ false → ((m : ℕ) → local_at l m ≡ local_of ps ts m) → (m : ℕ) → local_at (slice_set l n L.Temporary) m ≡ local_of ps (ts ++ n ∷ []) m
 new_one l ps ts n lt h agree m =

@@ -1,5 +1,5 @@
 -- What a loop over measured calls has gone along, and numbers that are told up to a cap.
-use Rattle.std.proofs.Common.{◌≡◌, ℕ, zero, suc, ◌+◌, ◌<◌, ◌≤◌, min, Bool, true, false, ◌||◌, List, [], ◌∷◌, ◌++◌, map, take, drop, Option, length, get_or, refl, sym, ap, subst, ◌∙◌, arith, zero-add, add-one, drop-cons}
+use Rattle.std.proofs.Common.{◌≡◌, ℕ, zero, suc, ◌+◌, ◌<◌, ◌≤◌, min, Bool, true, false, List, [], ◌∷◌, ◌++◌, map, take, drop, Option, length, get_or, refl, sym, ap, subst, ◌∙◌, arith, zero-add, add-one, drop-cons}
 use Rattle.std.specs.Prelude.{nat_lt}
 use Rattle.std.specs.List.{sum_by}
 use Rattle.std.proofs.lemmas.Int.{clamps}
@@ -34,10 +34,6 @@ capped-less k n h = by_case (nat_lt k n) refl
         let less : min 8000001 n ≤ k = omega (arith, clamps) in
         let no : nat_lt k (min 8000001 n) ≡ false = grind (arith, nat_tests) in
         no ∙ sym e
-
-pub or_true : (b : Bool) → (b || true) ≡ true
-or_true true = refl
-or_true false = refl
 
 -- the total so far is that of the sizes, or both are too large
 abbrev pub AgreeUpTo : ℕ → ℕ → ℕ → Type 0

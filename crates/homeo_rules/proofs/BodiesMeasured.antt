@@ -1,10 +1,11 @@
 -- Calls of one transaction with the same arguments have one measure.
-use Rattle.std.proofs.Common.{◌≡◌, ℕ, zero, suc, ◌<◌, ℤ, Bool, true, false, ◌&&◌, ◌==◌, List, [], ◌∷◌, ◌++◌, Option, Some, length, refl, sym, subst, ◌∙◌, arith}
+use Rattle.std.proofs.Common.{◌≡◌, ℕ, zero, suc, ◌<◌, ℤ, Bool, true, false, ◌&&◌, ◌==◌, List, [], ◌∷◌, ◌++◌, Option, Some, length, sym, subst, ◌∙◌, arith}
 use Rattle.std.specs.Prelude.{slice_get, slice_index_or, not, if◌then◌else◌}
 use Rattle.std.specs.Ordering.{int_eq}
 use Rattle.std.specs.Cmp.Lexicographic.{pointwise}
-use Rattle.std.proofs.lemmas.Int.{ints}
-use Rattle.std.proofs.lemmas.Bool.Decides.{nat_tests}
+use Rattle.homeo_lemmas.proofs.Bools.{and_first, and_second}
+use Rattle.homeo_lemmas.proofs.Lists.{numbers_same}
+use Rattle.homeo_lemmas.proofs.Naturals.{nat_is}
 use Rattle.homeo_syntax.specs.Source as s
 use Rattle.homeo_meaning.specs.Key.{definitions as meaning_definitions}
 use Rattle.homeo_meaning.specs.Schema.{nat_of, schema_of}
@@ -18,29 +19,6 @@ use Rattle.homeo_rules.specs.inner.Sizes.{IsMeasuredAs}
 use Rattle.homeo_rules.specs.declared.rules.bodies.Body.{Body}
 
 -- ---- bodies that the code finds equal
-and_first : (a b : Bool) → (a && b) ≡ true → a ≡ true
-and_first true b h = refl
-and_first false b h = h
-
-and_second : (a b : Bool) → (a && b) ≡ true → b ≡ true
-and_second true b h = h
-and_second false b h = cc
-
-int_same : (x y : ℤ) → int_eq x y ≡ true → x ≡ y
-int_same x y h = grind (arith, ints, h)
-
-nat_same : (m n : ℕ) → (m == n) ≡ true → m ≡ n
-nat_same m n h = grind (arith, nat_tests, h)
-
-numbers_same : (xs ys : List ℤ) → pointwise int_eq xs ys ≡ true → xs ≡ ys
-numbers_same [] [] h = refl
-numbers_same [] (y ∷ ys) h = cc
-numbers_same (x ∷ xs) [] h = cc
-numbers_same (x ∷ xs) (y ∷ ys) h =
-    let head : x ≡ y = int_same x y (and_first (int_eq x y) (pointwise int_eq xs ys) h) in
-    let tail : xs ≡ ys = numbers_same xs ys (and_second (int_eq x y) (pointwise int_eq xs ys) h) in
-    λ i. head i ∷ tail i
-
 -- the test of two bodies in the code
 abbrev pub same_body : Body → Body → Bool
 same_body a b = (a.name == b.name) && pointwise int_eq a.args.items b.args.items
@@ -92,6 +70,6 @@ module _ (w : s.Workload) (c : g.SitedCall) (b : Body) (name : b.name ≡ c.name
 
   pub old_measure : (found : List Body) (os : List (Option Measure)) (j : ℕ) (k : Body) (d : Option Measure) → HaveMeasures w found os → slice_get found j ≡ Some k → same_body b k ≡ true → IsMeasuredAs w c (slice_index_or os j d)
   old_measure found os j k d h at same =
-      let names : k.name ≡ c.name.name = sym (nat_same b.name k.name (and_first (b.name == k.name) (pointwise int_eq b.args.items k.args.items) same)) ∙ name in
+      let names : k.name ≡ c.name.name = sym (nat_is b.name k.name (and_first (b.name == k.name) (pointwise int_eq b.args.items k.args.items) same)) ∙ name in
       let values : k.args.items ≡ c.args = sym (numbers_same b.args.items k.args.items (and_second (b.name == k.name) (pointwise int_eq b.args.items k.args.items) same)) ∙ args in
       measured_alike w (call_to k) c (slice_index_or os j d) names values (measure_at w found os j k d h at)

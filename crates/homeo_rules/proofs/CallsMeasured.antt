@@ -1,10 +1,12 @@
 -- Each call is told, and where there is no fault of sizes, measured.
-use Rattle.std.proofs.Common.{◌≡◌, ℕ, zero, suc, ◌+◌, ◌<◌, min, Bool, true, false, ◌||◌, List, [], ◌∷◌, ◌++◌, map, take, Option, Some, None, length, get_or, refl, sym, ap, subst, ◌∙◌, arith, zero-add}
+use Rattle.std.proofs.Common.{◌≡◌, ℕ, zero, suc, ◌+◌, ◌<◌, min, Bool, true, false, ◌||◌, List, [], ◌∷◌, ◌++◌, map, take, Option, Some, None, length, get_or, refl, sym, ap, subst, ◌∙◌, arith, zero-add, add-zero}
 use Rattle.std.specs.Prelude.{nat_lt}
 use Rattle.std.specs.List.{sum_by}
 use Rattle.std.proofs.lemmas.List.{map-append}
 use Rattle.std.proofs.lemmas.List.Sums.{sum_by-append, sum_by-cons}
 use Rattle.std.proofs.lemmas.Bool.Decides.{nat_tests}
+use Rattle.homeo_lemmas.proofs.Bools.{or_true}
+use Rattle.homeo_lemmas.proofs.Naturals.{plus_assoc}
 use Rattle.homeo_syntax.specs.Source as s
 use Rattle.homeo_meaning.specs.Key.{definitions as meaning_definitions}
 use Rattle.homeo_meaning.specs.NameRules.{when, fault}
@@ -22,20 +24,14 @@ use Rattle.homeo_ground.specs.Sited.{sited}
 use Rattle.homeo_rules.specs.inner.Sizes.{call_of, told_size, IsToldAfter, IsTold, AreTold, AreMeasured, known}
 use Rattle.homeo_ground.specs.declared.sited.SitedCall.{SitedCall}
 use Rattle.homeo_rules.specs.declared.rules.sizes.MeasuredCall.{MeasuredCall}
-use Rattle.homeo_rules.proofs.AlongCalls.{or_true, AgreeUpTo, total_known, total_unknown}
+use Rattle.homeo_rules.proofs.AlongCalls.{AgreeUpTo, total_known, total_unknown}
 
 pub told_last : (w : s.Workload) (a : ℕ) (ms : List MeasuredCall) (m : MeasuredCall) → AreTold w a ms → IsToldAfter w (a + sum_by (λ (k : MeasuredCall). told_size w (call_of k)) ms) (call_of m) m.measure → AreTold w a (ms ++ m ∷ [])
-told_last w a [] m h k = (subst (λ n. IsToldAfter w n (call_of m) m.measure) (plus_none a) k, tt)
-  where
-    plus_none : (a : ℕ) → a + 0 ≡ a
-    plus_none a = omega arith
+told_last w a [] m h k = (subst (λ n. IsToldAfter w n (call_of m) m.measure) (add-zero a) k, tt)
 told_last w a (n ∷ ms) m h k =
     let size : MeasuredCall → ℕ = λ k. told_size w (call_of k) in
-    let sums : a + sum_by size (n ∷ ms) ≡ (a + size n) + sum_by size ms = ap (λ b. a + b) (sum_by-cons size n ms) ∙ assoc a (size n) (sum_by size ms) in
+    let sums : a + sum_by size (n ∷ ms) ≡ (a + size n) + sum_by size ms = ap (λ b. a + b) (sum_by-cons size n ms) ∙ plus_assoc a (size n) (sum_by size ms) in
     (h.0, told_last w (a + size n) ms m h.1 (subst (λ b. IsToldAfter w b (call_of m) m.measure) sums k))
-  where
-    assoc : (a b c : ℕ) → a + (b + c) ≡ (a + b) + c
-    assoc a b c = omega arith
 
 some_fault : (b : Bool) (fs : List Fault) (f : Fault) → fs ≡ f ∷ [] → b ≡ true → when b fs ≡ [] → ⊥
 unfolding meaning_definitions

@@ -1,8 +1,7 @@
 -- The count of the objects against the limit gives the rule of the declaration that passes it.
-use Rattle.std.proofs.Common.{◌≡◌, ℕ, ◌+◌, ◌*◌, Bool, true, false, cond, ◌&&◌, List, [], ◌∷◌, ◌++◌, map, length, Option, refl, sym, ap, subst, ◌∙◌, arith, zero-add}
+use Rattle.std.proofs.Common.{◌≡◌, ℕ, ◌+◌, ◌*◌, Bool, true, false, cond, ◌&&◌, List, [], ◌∷◌, ◌++◌, map, length, Option, refl, sym, ap, subst, ◌∙◌, arith}
 use Rattle.std.specs.Prelude.{nat_le, nat_lt}
 use Rattle.std.proofs.lemmas.Bool.Decides.{nat_tests}
-use Rattle.std.proofs.lemmas.List.Sums.{sum_by-append}
 use Rattle.homeo_syntax.specs.Key.{definitions as syntax_definitions}
 use Rattle.homeo_syntax.specs.declared.workload.ObjectDecl.{ObjectDecl}
 use Rattle.homeo_syntax.specs.declared.workload.RelationDecl.{RelationDecl}
@@ -13,6 +12,7 @@ use Rattle.homeo_meaning.specs.ListRules.{when, fault, each_from, each}
 use Rattle.homeo_meaning.specs.NumberRules.{Making, object_making, made, too_many_objects}
 use Rattle.homeo_rules.specs.inner.Deciding.{keep_all}
 use Rattle.homeo_meaning.specs.declared.rules.Phase.TheVariants.{Limits}
+use Rattle.homeo_meaning.proofs.SoundRelations.{made_more}
 use Rattle.homeo_rules.specs.inner.Key.{definitions}
 use Rattle.homeo_rules.specs.inner.Counting.{Counted, counted, count_all, making_of}
 use Rattle.homeo_rules.proofs.Steps.{keep-none, keep-one, keep_all-append}
@@ -45,10 +45,6 @@ next_case n k more c false e =
     of_past : (b : Bool) → nat_le (n + more) 1024 ≡ b → nat_le (cond (nat_le k 1024) (k + more) k) 1024 ≡ false → cond b (cond (nat_le k 1024) (k + more) k ≡ n + more) (nat_le (cond (nat_le k 1024) (k + more) k) 1024 ≡ false)
     of_past true h t = let no : nat_le (n + more) 1024 ≡ false = past n more e in cc
     of_past false h t = t
-
-made_more : (before : List Making) (m : Making) → made (before ++ m ∷ []) ≡ made before + m.objects
-unfolding meaning_definitions
-made_more before m = sum_by-append (λ (m : Making). m.objects) before (m ∷ []) ∙ ap (λ n. made before + n) (zero-add m.objects)
 
 abbrev along : Counted → List Making → Counted
 along k [] = k

@@ -1,9 +1,10 @@
 -- The rows of calls times their sizes, added up along them.
-use Rattle.std.proofs.Common.{◌≡◌, ℕ, ◌+◌, ◌*◌, ◌<◌, ◌≤◌, min, Bool, true, false, ◌||◌, List, map, drop, Option, length, get_or, refl, sym, ap, subst, ◌∙◌, arith}
+use Rattle.std.proofs.Common.{◌≡◌, ℕ, ◌+◌, ◌*◌, ◌<◌, ◌≤◌, min, Bool, true, false, ◌||◌, List, map, drop, Option, length, get_or, refl, sym, ap, subst, ◌∙◌, arith, mul_comm}
 use Rattle.std.specs.Prelude.{nat_lt}
 use Rattle.std.proofs.lemmas.Int.{clamps}
 use Rattle.std.proofs.lemmas.Bool.Decides.{nat_tests}
 use Rattle.std.proofs.Math.Nat.{mul-le-mul_left}
+use Rattle.homeo_lemmas.proofs.Naturals.{product_positive}
 use Rattle.homeo_syntax.specs.Low as L
 use Rattle.homeo_syntax.specs.Source as s
 use Rattle.homeo_meaning.specs.Key.{definitions as meaning_definitions}
@@ -24,9 +25,6 @@ use Rattle.homeo_rules.specs.inner.Sizes.{call_of, AreMeasured, known}
 use Rattle.homeo_rules.specs.declared.rules.sizes.MeasuredCall.{MeasuredCall}
 use Rattle.homeo_rules.proofs.AlongCalls.{left_of, one_more, none_more, sum_before, sum_next, again, capped-less, head_measured}
 
-one_product : (m n : ℕ) → 1 ≤ m → 1 ≤ n → 1 ≤ m * n
-one_product m n h k = let le : m * 1 ≤ m * n = mul-le-mul_left m k in omega arith
-
 mutual
   unfolding meaning_definitions
 
@@ -40,7 +38,7 @@ mutual
 
   rows_all_one : (cs : L.Commands) → 1 ≤ rows_all cs
   rows_all_one L.NoCommand = omega arith
-  rows_all_one (L.MoreCommand c cs) = one_product (rows c) (rows_all cs) (rows_one c) (rows_all_one cs)
+  rows_all_one (L.MoreCommand c cs) = product_positive (rows c) (rows_all cs) (rows_one c) (rows_all_one cs)
 
 size_one : (sites : ℕ) (c : L.Command) (v : Location → Extent) → 1 ≤ (command_extent sites c v).size
 unfolding meaning_definitions
@@ -61,8 +59,6 @@ at_cap n h = omega (arith, clamps)
 capped_product : (m n : ℕ) → 1 ≤ m → 1 ≤ n → min 8000001 (min 8000001 m * min 8000001 n) ≡ min 8000001 (m * n)
 capped_product m n h k = by_case (nat_lt 8000001 m) (nat_lt 8000001 n) refl refl
   where
-    swapped : (a b : ℕ) → a * b ≡ b * a
-    swapped a b = omega arith
 
     least : min 8000001 n ≤ n
     least = omega (arith, clamps)
@@ -82,7 +78,7 @@ capped_product m n h k = by_case (nat_lt 8000001 m) (nat_lt 8000001 n) refl refl
         let same : min 8000001 m ≡ m = omega (arith, clamps) in
         let far : 8000001 ≤ 8000001 * m = far_product 8000001 m (omega arith) h in
         let full : 8000001 ≤ n * m = far_product n m (omega arith) h in
-        (λ i. min 8000001 (same i * cap i)) ∙ ap (min 8000001) (swapped m 8000001) ∙ at_cap _ far ∙ sym (ap (min 8000001) (swapped m n) ∙ at_cap _ full)
+        (λ i. min 8000001 (same i * cap i)) ∙ ap (min 8000001) (mul_comm m 8000001) ∙ at_cap _ far ∙ sym (ap (min 8000001) (mul_comm m n) ∙ at_cap _ full)
     by_case false false e f =
         let le : m ≤ 8000001 = grind (arith, nat_tests) in
         let less : n ≤ 8000001 = grind (arith, nat_tests) in

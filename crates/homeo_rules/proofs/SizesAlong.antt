@@ -3,6 +3,7 @@ use Rattle.std.proofs.Common.{◌≡◌, ℕ, ◌+◌, ◌<◌, ◌≤◌, min, 
 use Rattle.std.specs.Prelude.{nat_lt}
 use Rattle.std.proofs.lemmas.Int.{clamps}
 use Rattle.std.proofs.lemmas.Bool.Decides.{nat_tests}
+use Rattle.homeo_lemmas.proofs.Bools.{or_true}
 use Rattle.homeo_syntax.specs.Source as s
 use Rattle.homeo_meaning.specs.Key.{definitions as meaning_definitions}
 use Rattle.homeo_meaning.specs.NameRules.{when, fault}
@@ -16,7 +17,7 @@ use Rattle.homeo_meaning.specs.declared.rules.Phase.TheVariants.{Size}
 use Rattle.homeo_size.specs.declared.measures.Measure.{Measure}
 use Rattle.homeo_rules.specs.inner.Sizes.{call_of, told_size, IsToldAfter, AreTold, known, is_too_large}
 use Rattle.homeo_rules.specs.declared.rules.sizes.MeasuredCall.{MeasuredCall}
-use Rattle.homeo_rules.proofs.AlongCalls.{left_of, one_more, none_more, sum_before, sum_next, again, capped-less, or_true, AgreeUpTo, total_known, total_unknown}
+use Rattle.homeo_rules.proofs.AlongCalls.{left_of, one_more, none_more, sum_before, sum_next, again, capped-less, AgreeUpTo, total_known, total_unknown}
 
 same_test : (m n : ℕ) → AgreeUpTo 2000001 m n → nat_lt 2000000 m ≡ nat_lt 2000000 n
 same_test m n h = by_case (nat_lt 2000000 n) refl

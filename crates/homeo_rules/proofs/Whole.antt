@@ -3,6 +3,7 @@ use Rattle.std.proofs.Common.{◌≡◌, ◌≢◌, ℕ, zero, suc, ◌<◌, Boo
 use Rattle.std.specs.List.{flat_map}
 use Rattle.std.proofs.lemmas.List.{length-set, length-replicate}
 use Rattle.std.proofs.lemmas.Bool.Decides.{nat_tests}
+use Rattle.homeo_lemmas.proofs.Bools.{or_nothing, or_true}
 use Rattle.homeo_syntax.specs.Key.{definitions as syntax_definitions}
 use Rattle.homeo_syntax.specs.Source as s
 use Rattle.homeo_syntax.specs.SourceView.{plain_transaction}
@@ -31,7 +32,7 @@ use Rattle.homeo_rules.specs.inner.Listwise.{along_all}
 use Rattle.homeo_rules.specs.inner.Within.{IsNamed}
 use Rattle.homeo_rules.proofs.Steps.{keep_all-append}
 use Rattle.homeo_rules.proofs.Listing.{all-along}
-use Rattle.homeo_rules.proofs.Agrees.{TargetsWithin, in_more, or-nothing, or_true, follows}
+use Rattle.homeo_rules.proofs.Agrees.{TargetsWithin, in_more, follows}
 
 -- ---- targets are names where all identifiers are
 both : (n : ℕ) (ps qs : List Occurrence) → TargetsWithin n ps → TargetsWithin n qs → TargetsWithin n (ps ++ qs)
@@ -114,7 +115,7 @@ enter_case l ps n lt agree m true e =
     subst (λ k. local_at (slice_set l n L.Parameter) k ≡ L.Parameter) same now ∙ sym (ap of_params (or_true (is_in m ps)))
 enter_case l ps n lt agree m false e =
     let other : m ≢ n = grind (arith, nat_tests) in
-    get_or-set_other l n m L.Parameter L.Absent other ∙ agree m ∙ params-is ps m ∙ ap of_params (or-nothing (is_in m ps))
+    get_or-set_other l n m L.Parameter L.Absent other ∙ agree m ∙ params-is ps m ∙ ap of_params (or_nothing (is_in m ps))
 
 entered : (l : List Local) (ps : List ℕ) (n : ℕ) → n < length l → ((m : ℕ) → local_at l m ≡ local_of ps [] m) → (m : ℕ) → local_at (slice_set l n L.Parameter) m ≡ local_of (ps ++ n ∷ []) [] m
 entered l ps n lt agree m = enter_case l ps n lt agree m (n == m) refl ∙ sym (params-is (ps ++ n ∷ []) m ∙ ap of_params (in_more ps n m))
