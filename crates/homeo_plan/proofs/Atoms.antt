@@ -4,6 +4,9 @@ use Rattle.homeo_plan.specs.Key.{definitions}
 use Rattle.std.proofs.Common.{◌≡◌, ℕ, Bool, true, false, cond, not, ◌&&◌, List, [], ◌∷◌, ◌++◌, ℤ, pos, negsuc, ◌+ℤ◌, ◌*ℤ◌, ◌≤ℤ◌, int_lt, int_le, refl, sym, ap, ap₂, ◌∙◌, subst, true≢false, arith}
 use Rattle.std.proofs.lemmas.Int.{ints}
 use Rattle.std.specs.Ordering.{int_eq}
+use Rattle.std.proofs.lemmas.Bool.{and_parts, not-true, not-false}
+use Rattle.homeo_lemmas.proofs.Bools.{and_false}
+use Rattle.homeo_lemmas.proofs.Integers.{int_is, int_same, int_is_not}
 use Rattle.homeo_syntax.specs.declared.phrase.Compare.{Compare}
 use Rattle.homeo_syntax.specs.declared.phrase.Compare.TheVariants.{Less, LessEqual, Equal}
 use Rattle.homeo_syntax.specs.Low.{Expr, Test, Cond, True, Not, Comparison, NoTest, MoreTest}
@@ -96,21 +99,9 @@ not_at_most_if : (x y : ℤ) → (pos 1 +ℤ (y +ℤ (negsuc 0 *ℤ x))) ≤ℤ 
 unfolding definitions meaning_definitions
 not_at_most_if x y h = let e : false ≡ int_le x y = omega (arith, ints) in sym e
 
-int_eq_of : (x y : ℤ) → x ≡ y → int_eq x y ≡ true
-unfolding definitions meaning_definitions
-int_eq_of x y h = grind (arith, ints)
-
 int_ne_of : (x y : ℤ) → (x ≡ y → ⊥) → int_eq x y ≡ false
 unfolding definitions meaning_definitions
 int_ne_of x y h = grind (arith, ints)
-
-pub int_eq_is : (x y : ℤ) → int_eq x y ≡ true → x ≡ y
-unfolding definitions meaning_definitions
-int_eq_is x y h = grind (arith, ints)
-
-int_eq_is_not : (x y : ℤ) → int_eq x y ≡ false → x ≡ y → ⊥
-unfolding definitions meaning_definitions
-int_eq_is_not x y h e = true≢false (sym (int_eq_of x y e) ∙ h)
 
 pub true_comparison_holds :
     (op : Compare) (a b : Linear) (s : State) (x y : ℤ) → Is a s x → Is b s y → Each (AtomHolds s) (true_comparison op a b) →
@@ -121,7 +112,7 @@ true_comparison_holds LessEqual a b s x y hx hy h = at_most_if x y (gap a b (pos
 true_comparison_holds Equal a b s x y hx hy h =
     let p = gap a b (pos 0) s x y hx hy h.0 in
     let q = gap b a (pos 0) s y x hy hx h.1.0 in
-    int_eq_of x y (omega (arith, ints))
+    int_same x y (omega (arith, ints))
 
 pub false_comparison_holds :
     (op : Compare) (v : Bool) (a b : Linear) (s : State) (x y : ℤ) → Is a s x → Is b s y →
@@ -139,7 +130,7 @@ pub true_below : (op : Compare) (a b : Linear) → compared op a.constant b.cons
 unfolding definitions meaning_definitions
 true_below Less a b h = (omega (arith, ints), tt)
 true_below LessEqual a b h = (omega (arith, ints), tt)
-true_below Equal a b h = let e = int_eq_is a.constant b.constant h in (omega (arith, ints), (omega (arith, ints), tt))
+true_below Equal a b h = let e = int_is a.constant b.constant h in (omega (arith, ints), (omega (arith, ints), tt))
 
 pub false_below :
     (op : Compare) (a b : Linear) → compared op a.constant b.constant ≡ false →
@@ -152,43 +143,23 @@ false_below Equal a b h = go (int_lt a.constant b.constant) refl
     go : (v : Bool) → int_lt a.constant b.constant ≡ v → Each IsBelowAtBase (cond v (difference a b (pos 1)) (difference b a (pos 1)) ∷ [])
     go true e = (omega (arith, ints), tt)
     go false e =
-        let ne = int_eq_is_not a.constant b.constant h in
+        let ne = int_is_not a.constant b.constant h in
         (omega (arith, ints), tt)
 
 -- ---- whole formulas
-pub not_true : (v : Bool) → not v ≡ true → v ≡ false
-unfolding definitions meaning_definitions
-not_true true e = sym e
-not_true false e = refl
-
-pub not_false : (v : Bool) → not v ≡ false → v ≡ true
-unfolding definitions meaning_definitions
-not_false true e = refl
-not_false false e = sym e
-
-pub both_parts : (u v : Bool) → (u && v) ≡ true → (u ≡ true) × (v ≡ true)
-unfolding definitions meaning_definitions
-both_parts true v e = (refl, e)
-both_parts false v e = absurd (true≢false (sym e))
-
-pub never : (u : Bool) → (u && false) ≡ false
-unfolding definitions meaning_definitions
-never true = refl
-never false = refl
-
 module _ (b : ℕ → ℤ) (s : State) (on : IsOn b s) where
   mutual
     unfolding definitions meaning_definitions
 
     true_test_holds : (t : Test) → passes t (whole b) ≡ true → Each (AtomHolds s) (true_test b t) → passes t s ≡ true
     true_test_holds True e h = refl
-    true_test_holds (Not c) e h = ap not (false_cond_holds c (not_true (holds c (whole b)) e) h)
+    true_test_holds (Not c) e h = ap not (false_cond_holds c (not-true (holds c (whole b)) e) h)
     true_test_holds (Comparison op x y) e h =
         true_comparison_holds op _ _ s (value x s) (value y s) (form_is b s on x) (form_is b s on y) h
 
     false_test_holds : (t : Test) → passes t (whole b) ≡ false → Each (AtomHolds s) (false_test b t) → passes t s ≡ false
     false_test_holds True e h = e
-    false_test_holds (Not c) e h = ap not (true_cond_holds c (not_false (holds c (whole b)) e) h)
+    false_test_holds (Not c) e h = ap not (true_cond_holds c (not-false (holds c (whole b)) e) h)
     false_test_holds (Comparison op x y) e h =
         false_comparison_holds op _ _ _ s (value x s) (value y s) (form_is b s on x) (form_is b s on y) h
 
@@ -196,7 +167,7 @@ module _ (b : ℕ → ℤ) (s : State) (on : IsOn b s) where
     true_cond_holds NoTest e h = refl
     true_cond_holds (MoreTest t c) e h =
         let k = each_append (AtomHolds s) (true_test b t) (true_cond b c) h in
-        let m = both_parts (passes t (whole b)) (holds c (whole b)) e in
+        let m = and_parts (passes t (whole b)) (holds c (whole b)) e in
         ap₂ (λ u v. (u && v)) (true_test_holds t m.0 k.0) (true_cond_holds c m.1 k.1)
 
     false_cond_holds : (c : Cond) → holds c (whole b) ≡ false → Each (AtomHolds s) (false_cond b c) → holds c s ≡ false
@@ -208,7 +179,7 @@ module _ (b : ℕ → ℤ) (s : State) (on : IsOn b s) where
             → (holds c (whole b) ≡ false → Each (AtomHolds s) (false_cond b c) → holds c s ≡ false)
             → (passes t (whole b) ≡ false → Each (AtomHolds s) (false_test b t) → passes t s ≡ false)
             → (v && holds c (whole b)) ≡ false → Each (AtomHolds s) (cond v (false_cond b c) (false_test b t)) → (passes t s && holds c s) ≡ false
-        first_false true q hc ht e h = ap (λ w. passes t s && w) (hc e h) ∙ never (passes t s)
+        first_false true q hc ht e h = ap (λ w. passes t s && w) (hc e h) ∙ and_false (passes t s)
         first_false false q hc ht e h = ap (λ w. w && holds c s) (ht q h)
 
 -- the constants of the atoms of what holds at the base
@@ -218,13 +189,13 @@ module _ (b : ℕ → ℤ) where
 
     true_test_below : (t : Test) → passes t (whole b) ≡ true → Each IsBelowAtBase (true_test b t)
     true_test_below True e = tt
-    true_test_below (Not c) e = false_cond_below c (not_true (holds c (whole b)) e)
+    true_test_below (Not c) e = false_cond_below c (not-true (holds c (whole b)) e)
     true_test_below (Comparison op x y) e =
         true_below op _ _ (sym (ap₂ (compared op) (form_at_base b x) (form_at_base b y)) ∙ e)
 
     false_test_below : (t : Test) → passes t (whole b) ≡ false → Each IsBelowAtBase (false_test b t)
     false_test_below True e = tt
-    false_test_below (Not c) e = true_cond_below c (not_false (holds c (whole b)) e)
+    false_test_below (Not c) e = true_cond_below c (not-false (holds c (whole b)) e)
     false_test_below (Comparison op x y) e =
         let p = form (base_forms b) x in
         let q = form (base_forms b) y in
@@ -234,7 +205,7 @@ module _ (b : ℕ → ℤ) where
     pub true_cond_below : (c : Cond) → holds c (whole b) ≡ true → Each IsBelowAtBase (true_cond b c)
     true_cond_below NoTest e = tt
     true_cond_below (MoreTest t c) e =
-        let m = both_parts (passes t (whole b)) (holds c (whole b)) e in
+        let m = and_parts (passes t (whole b)) (holds c (whole b)) e in
         append_each IsBelowAtBase (true_test b t) (true_cond b c) (true_test_below t m.0) (true_cond_below c m.1)
 
     false_cond_below : (c : Cond) → holds c (whole b) ≡ false → Each IsBelowAtBase (false_cond b c)

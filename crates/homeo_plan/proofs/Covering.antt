@@ -1,10 +1,12 @@
 -- From a template back to the atoms of each call that it covers.
 use Rattle.homeo_meaning.specs.Key.{definitions as meaning_definitions}
 use Rattle.homeo_plan.specs.Key.{definitions}
-use Rattle.std.proofs.Common.{◌≡◌, ℕ, Bool, true, false, cond, ◌&&◌, ◌||◌, List, [], ◌∷◌, ◌++◌, ℤ, pos, ◌+ℤ◌, ◌≤ℤ◌, neg_ℤ, refl, sym, ap₂, subst, inl, inr, ⊎_elim, true≢false, arith, map}
+use Rattle.std.proofs.Common.{◌≡◌, ℕ, Bool, true, false, cond, ◌||◌, List, [], ◌∷◌, ◌++◌, ℤ, pos, ◌+ℤ◌, ◌≤ℤ◌, neg_ℤ, refl, sym, ap₂, subst, inl, inr, ⊎_elim, true≢false, arith, map}
 use Rattle.std.proofs.lemmas.Int.{ints}
 use Rattle.std.specs.Ordering.{int_eq}
 use Rattle.std.specs.List.{list_any}
+use Rattle.std.proofs.lemmas.Bool.{and_parts}
+use Rattle.homeo_lemmas.proofs.Integers.{int_is}
 use Rattle.homeo_meaning.specs.LowMeaning.{State}
 use Rattle.homeo_plan.specs.Each.{Each, Member}
 use Rattle.homeo_plan.specs.declared.forms.Delta.{Delta}
@@ -14,13 +16,8 @@ use Rattle.homeo_plan.specs.Holding.{AtomHolds}
 use Rattle.homeo_plan.specs.Template.{PlannedCall, atoms_of, needs_of, Clause, clause_of, same_term, same_terms, same_clause, with_clause, clauses_from, atoms_of_sets, put_all, template, Covers}
 use Rattle.homeo_plan.proofs.Factors.{same_delta_is}
 use Rattle.homeo_plan.proofs.Tracked.{each_add_deltas}
-use Rattle.homeo_plan.proofs.Atoms.{each_append, int_eq_is}
+use Rattle.homeo_plan.proofs.Atoms.{each_append}
 use Rattle.homeo_plan.specs.Tracking.{IsBelowAtBase, ClauseHolds}
-
-both_true : (u v : Bool) → (u && v) ≡ true → (u ≡ true) × (v ≡ true)
-unfolding definitions meaning_definitions
-both_true true v e = (refl, e)
-both_true false v e = absurd (true≢false (sym e))
 
 pub same_terms_is : (ts us : List Term) → same_terms ts us ≡ true → ts ≡ us
 unfolding definitions meaning_definitions
@@ -28,19 +25,19 @@ same_terms_is [] [] e = refl
 same_terms_is [] (u ∷ us) e = absurd (true≢false (sym e))
 same_terms_is (t ∷ ts) [] e = absurd (true≢false (sym e))
 same_terms_is (t ∷ ts) (u ∷ us) e =
-    let p = both_true (same_term t u) (same_terms ts us) e in
-    let q = both_true (same_delta t.delta u.delta) (int_eq t.factor u.factor) p.0 in
+    let p = and_parts (same_term t u) (same_terms ts us) e in
+    let q = and_parts (same_delta t.delta u.delta) (int_eq t.factor u.factor) p.0 in
     let x = same_delta_is t.delta u.delta q.0 in
-    let y = int_eq_is t.factor u.factor q.1 in
+    let y = int_is t.factor u.factor q.1 in
     let z : t ≡ u = λ i. record { delta = x i; factor = y i } in
     ap₂ ◌∷◌ z (same_terms_is ts us p.1)
 
 same_clause_is : (a b : Clause) → same_clause a b ≡ true → a ≡ b
 unfolding definitions meaning_definitions
 same_clause_is a b e =
-    let p = both_true (same_terms a.terms b.terms) (int_eq a.slack b.slack) e in
+    let p = and_parts (same_terms a.terms b.terms) (int_eq a.slack b.slack) e in
     let x = same_terms_is a.terms b.terms p.0 in
-    let y = int_eq_is a.slack b.slack p.1 in
+    let y = int_is a.slack b.slack p.1 in
     λ i. record { terms = x i; slack = y i }
 
 among : (P : Clause → Type 0) (c : Clause) (cs : List Clause) → list_any (same_clause c) cs ≡ true → Each P cs → P c

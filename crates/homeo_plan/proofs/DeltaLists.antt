@@ -2,6 +2,7 @@
 use Rattle.homeo_plan.specs.Key.{definitions}
 use Rattle.std.proofs.Common.{◌≡◌, Bool, true, false, cond, ◌||◌, List, [], ◌∷◌, refl, sym, ap, ap₂, ◌∙◌, true≢false}
 use Rattle.std.specs.List.{list_any}
+use Rattle.homeo_lemmas.proofs.Bools.{or_again}
 use Rattle.homeo_plan.specs.declared.forms.Delta.{Delta}
 use Rattle.homeo_plan.specs.declared.forms.Term.{Term}
 use Rattle.homeo_plan.specs.Each.{Each}
@@ -13,10 +14,6 @@ use Rattle.homeo_plan.proofs.Order.{Above, Sorted}
 -- ---- whether a delta is there
 abbrev pub has : Delta → List Delta → Bool
 has d ds = list_any (same_delta d) ds
-
-or_again : (b c : Bool) → (b || c) ≡ (b || (b || c))
-or_again true c = refl
-or_again false c = refl
 
 or_swap : (a b c : Bool) → (a || (b || c)) ≡ (b || (a || c))
 or_swap true true c = refl

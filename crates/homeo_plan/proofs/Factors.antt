@@ -4,6 +4,7 @@ use Rattle.std.proofs.Common.{◌≡◌, Bool, true, false, cond, List, [], ◌�
 use Rattle.std.proofs.lemmas.Int.{ints}
 use Rattle.std.proofs.lemmas.Bool.Decides.{nat_tests}
 use Rattle.std.specs.Ordering.{int_eq}
+use Rattle.homeo_lemmas.proofs.Integers.{int_is_zero}
 use Rattle.homeo_plan.specs.declared.forms.Delta.{Delta}
 use Rattle.homeo_plan.specs.declared.forms.Term.{Term}
 use Rattle.homeo_plan.specs.Linear.{same_delta, delta_before, with_term, add_term, add_terms, scale_terms}
@@ -44,9 +45,6 @@ unfolding definitions
 factor e [] = pos 0
 factor e (t ∷ ts) = at_delta t.delta t.factor e +ℤ factor e ts
 
-zero_is : (f : ℤ) → int_eq f (pos 0) ≡ true → f ≡ pos 0
-zero_is f h = grind (arith, ints)
-
 with_term_factor : (d : Delta) (f : ℤ) (ts : List Term) (e : Delta) → factor e (with_term d f ts) ≡ at_delta d f e +ℤ factor e ts
 unfolding definitions
 with_term_factor d f ts e = go (int_eq f (pos 0)) refl
@@ -56,7 +54,7 @@ with_term_factor d f ts e = go (int_eq f (pos 0)) refl
     none false q = omega (arith, ints)
 
     go : (v : Bool) → int_eq f (pos 0) ≡ v → factor e (cond v ts (record { delta = d; factor = f } ∷ ts)) ≡ cond (same_delta d e) f (pos 0) +ℤ factor e ts
-    go true q = none (same_delta d e) (zero_is f q)
+    go true q = none (same_delta d e) (int_is_zero f q)
     go false q = refl
 
 at_spot-add : (d : Delta) (f g : ℤ) (e : Delta) → at_delta d (f +ℤ g) e ≡ at_delta d f e +ℤ at_delta d g e

@@ -2,10 +2,11 @@
 use Rattle.homeo_meaning.specs.Key.{definitions as meaning_definitions}
 use Rattle.homeo_plan.specs.declared.treaty.Broken.{Broken}
 use Rattle.homeo_plan.specs.Key.{definitions}
-use Rattle.std.proofs.Common.{◌≡◌, ℕ, suc, ◌==◌, Bool, true, false, cond, not, ◌&&◌, List, [], ◌∷◌, ℤ, pos, int_le, ◌≤ℤ◌, Option, Some, None, refl, sym, ◌∙◌, true≢false, arith}
+use Rattle.std.proofs.Common.{◌≡◌, ℕ, suc, ◌==◌, Bool, true, false, cond, not, ◌&&◌, List, [], ◌∷◌, pos, int_le, ◌≤ℤ◌, Option, Some, None, refl, sym, ◌∙◌, true≢false, arith}
 use Rattle.std.specs.Ordering.{int_eq}
-use Rattle.std.proofs.lemmas.Int.{ints}
 use Rattle.std.proofs.lemmas.Bool.Decides.{nat_tests}
+use Rattle.homeo_lemmas.proofs.Integers.{int_is, at_most, not_at_most, int_is_not}
+use Rattle.homeo_lemmas.proofs.Options.{some_not_none}
 use Rattle.homeo_plan.specs.declared.forms.Delta.{Delta}
 use Rattle.homeo_plan.specs.Template.{Clause, Template}
 use Rattle.homeo_plan.specs.Joined.{Deltas}
@@ -16,21 +17,6 @@ use Rattle.homeo_plan.specs.Treaty.{site_sum, bound_at, KeepsClauses, KeepsFreez
 record Tells (P : Type 0) (o : Option Broken) : Type 0 where
   none : o ≡ None → P
   some : (f : Broken) → o ≡ Some f → P → ⊥
-
-some_not_none : {X : Type 0} (x : X) → Some x ≡ None → ⊥
-some_not_none x e = cc
-
-at_most : (a b : ℤ) → int_le a b ≡ true → a ≤ℤ b
-at_most a b e = omega (arith, ints, e)
-
-not_at_most : (a b : ℤ) → int_le a b ≡ false → a ≤ℤ b → ⊥
-not_at_most a b e h = omega (arith, ints, e)
-
-equal : (a b : ℤ) → int_eq a b ≡ true → a ≡ b
-equal a b e = grind (arith, ints)
-
-unequal : (a b : ℤ) → int_eq a b ≡ false → a ≡ b → ⊥
-unequal a b e h = grind (arith, ints)
 
 freezes_tell : (n i : ℕ) (x : Deltas) (ds : List Delta) → Tells (KeepsFreezes i x ds) (broken_freeze n i x ds)
 unfolding definitions meaning_definitions
@@ -47,9 +33,9 @@ freezes_tell n i x (d ∷ ds) = go (freezes_tell (suc n) i x ds) (d.site == i) (
     go rest false v p q =
         record { none = λ e. (λ s. absurd (true≢false (sym (grind (arith, nat_tests)) ∙ p)), rest.none e); some = λ f e h. rest.some f e h.1 }
     go rest true true p q =
-        record { none = λ e. (λ s. equal (x d.object) (pos 0) q, rest.none e); some = λ f e h. rest.some f e h.1 }
+        record { none = λ e. (λ s. int_is (x d.object) (pos 0) q, rest.none e); some = λ f e h. rest.some f e h.1 }
     go rest true false p q =
-        record { none = λ e. absurd (some_not_none one e); some = λ f e h. unequal (x d.object) (pos 0) q (h.0 (grind (arith, nat_tests))) }
+        record { none = λ e. absurd (some_not_none one e); some = λ f e h. int_is_not (x d.object) (pos 0) q (h.0 (grind (arith, nat_tests))) }
 
 clauses_tell :
     (n i : ℕ) (x : Deltas) (cs : List Clause) (bs : Config) (ds : List Delta) →

@@ -12,6 +12,7 @@ use Rattle.homeo_meaning.specs.LowMeaning.{Location, TempAt, BaseAt, DeltaAt, St
 use Rattle.homeo_meaning.specs.LowWeights.{weight, after, after_all, is_light_cond, is_light, are_light}
 use Rattle.homeo_meaning.specs.Small.{IsSmall}
 use Rattle.homeo_meaning.specs.Whole.{IsWhole, AreWhole}
+use Rattle.homeo_lform.proofs.Light.{weight_small}
 use Rattle.homeo_plan.specs.Split.{shift_expr, shift_cond, shift, shift_all}
 use Rattle.homeo_plan.specs.Table.{Row, test_before, otherwise, walk_before, walk_all_before}
 use Rattle.homeo_plan.specs.Linear.{delta_of, Linear, Forms, form}
@@ -23,7 +24,7 @@ use Rattle.homeo_plan.proofs.Replaced.{can_replace_cond}
 use Rattle.homeo_plan.proofs.Cleared.{can_both}
 use Rattle.homeo_plan.proofs.WholeReads.{Own, Holds}
 use Rattle.homeo_plan.proofs.Made.{make, one_weight}
-use Rattle.homeo_plan.proofs.MadeTests.{weight_small, made_cond}
+use Rattle.homeo_plan.proofs.MadeTests.{made_cond}
 use Rattle.homeo_plan.proofs.Written.{own_value, written}
 
 -- the forms after the branches that are taken from a state
@@ -56,7 +57,7 @@ holds_wider k i base v v' f l h =
       ones = λ p. omega (arith, l p, h.ones p);
     }
 
-put_ones : (v : Location → ℕ) (p : Location) (n : ℕ) → ((q : Location) → 1 ≤ v q) → 1 ≤ n → (q : Location) → 1 ≤ put v p n q
+pub put_ones : (v : Location → ℕ) (p : Location) (n : ℕ) → ((q : Location) → 1 ≤ v q) → 1 ≤ n → (q : Location) → 1 ≤ put v p n q
 unfolding meaning_definitions
 put_ones v p n h one q = go (same_location p q)
   where

@@ -18,11 +18,10 @@ use Rattle.homeo_meaning.specs.Small.{IsSmall}
 use Rattle.homeo_meaning.proofs.FaultParts.{NoFault, parts}
 use Rattle.homeo_meaning.proofs.LightCalls.{ground_call_light}
 use Rattle.homeo_meaning.proofs.Sound.{sound}
-use Rattle.homeo_lform.proofs.Light.{light_law}
+use Rattle.homeo_lform.proofs.Light.{light_law, size_at}
 use Rattle.homeo_plan.specs.Split.{fold_state}
 use Rattle.homeo_plan.specs.Table.{HasNoTemps}
 use Rattle.homeo_plan.proofs.BoundSizes.{most, bounds_small}
-use Rattle.homeo_plan.proofs.SmallForms.{size_at}
 
 pub values_small :
     (w : s.Workload) → IsAccepted w → (values : ℕ → ℤ) → AllWithin (schema_of w) values → (n : ℕ) → unsigned_abs (values n) ≤ most

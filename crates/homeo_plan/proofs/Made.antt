@@ -4,7 +4,7 @@ use Rattle.homeo_meaning.specs.Key.{definitions as meaning_definitions}
 use Rattle.std.proofs.Common.{◌≡◌, ℕ, ◌+◌, ◌*◌, ◌<◌, ◌≤◌, [], ℤ, pos, ◌+ℤ◌, ap, ◌∙◌, arith}
 use Rattle.std.specs.Int.RustNames.{unsigned_abs}
 use Rattle.std.proofs.lemmas.Int.{ints}
-use Rattle.std.proofs.lemmas.Nat.{mul-le}
+use Rattle.homeo_lemmas.proofs.Naturals.{product_positive, factor_le}
 use Rattle.homeo_syntax.specs.declared.low.SplitName.TheVariants as split
 use Rattle.homeo_syntax.specs.Low.{Expr, Exprs, Literal, OfTemp, Read, Sum, Product, Neg, NoExpr, MoreExpr}
 use Rattle.homeo_meaning.specs.LowMeaning.{Location, TempAt, BaseAt, DeltaAt, location_of}
@@ -21,12 +21,6 @@ use Rattle.homeo_plan.proofs.Sizes.{Within, numbers, wider, within_constant, wit
 use Rattle.homeo_plan.proofs.Others.{others_from, IsBit, others_bit, shape_within}
 use Rattle.homeo_plan.proofs.WholeReads.{Own, Holds, Part, before_own}
 
-pub one_mul : (m n : ℕ) → 1 ≤ m → 1 ≤ n → 1 ≤ m * n
-one_mul m n p q = omega (arith, mul-le 1 1 m n p q)
-
-pub factor_le : (a k : ℕ) → 1 ≤ k → a ≤ a * k
-factor_le a k p = omega (arith, mul-le a 1 a k (omega arith) p)
-
 module _ (w : Location → ℕ) (ones : (p : Location) → 1 ≤ w p) where
   mutual
     unfolding definitions meaning_definitions
@@ -41,7 +35,7 @@ module _ (w : Location → ℕ) (ones : (p : Location) → 1 ≤ w p) where
 
     pub one_product : (es : Exprs) → 1 ≤ product_weight es w
     one_product NoExpr = omega arith
-    one_product (MoreExpr e es) = one_mul (weight e w) (product_weight es w) (one_weight e) (one_product es)
+    one_product (MoreExpr e es) = product_positive (weight e w) (product_weight es w) (one_weight e) (one_product es)
 
 -- the numbers of the way, and the form within n
 pub record Made (Can : Type 0) (n : ℕ) (a : Linear) : Type 0 where
@@ -150,13 +144,13 @@ module _ (b k i : ℕ) (base : ℕ → ℤ) (inside : i < k) (small : (x : ℕ) 
         let rest = product_weight es v in
         let one_rest = one_product v h.ones es in
         let one_e = one_weight v h.ones e in
-        let whole_le : we ≤ we * (m * rest) = factor_le we (m * rest) (one_mul m rest one one_rest) in
-        let part : m ≤ m * (we * rest) = factor_le m (we * rest) (one_mul we rest one_e one_rest) in
+        let whole_le : we ≤ we * (m * rest) = factor_le we (m * rest) (product_positive m rest one one_rest) in
+        let part : m ≤ m * (we * rest) = factor_le m (we * rest) (product_positive we rest one_e one_rest) in
         let x = make e t.0 (omega (arith, l, whole_le)) in
         let same : (m * we) * rest ≡ m * (we * rest) = omega arith in
         let r =
         product_make es t.1 (multiply_forms a (form f (shift_expr k e))) (m * we)
-        (within_multiply m we a (form f (shift_expr k e)) w x.within) (one_mul m we one one_e) (omega (arith, l, same)) in
+        (within_multiply m we a (form f (shift_expr k e)) w x.within) (product_positive m we one one_e) (omega (arith, l, same)) in
         record {
           can = (numbers (2 * b + 1) m a (omega (arith, l, part)) w, x.can, r.can);
           within = wider (m * (we * rest)) ((m * we) * rest) _ (omega (arith, same)) r.within;

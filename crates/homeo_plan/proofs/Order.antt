@@ -4,6 +4,7 @@ use Rattle.std.proofs.Common.{◌≡◌, ℕ, ◌≤◌, Bool, true, false, cond
 use Rattle.std.proofs.lemmas.Int.{ints}
 use Rattle.std.specs.Int.RustNames.{unsigned_abs}
 use Rattle.std.specs.Ordering.{int_eq}
+use Rattle.homeo_lemmas.proofs.Integers.{zero_plus}
 use Rattle.homeo_plan.specs.Each.{Each}
 use Rattle.homeo_plan.specs.declared.forms.Delta.{Delta}
 use Rattle.homeo_plan.specs.declared.forms.Term.{Term}
@@ -110,7 +111,4 @@ small_terms n (t ∷ ts) s h =
         let e : factor d ts ≡ pos 0 = ap (λ c. factor c ts) (sym (same_delta_is t.delta d q)) ∙ none_above t.delta ts s.0 in
         let z : unsigned_abs (factor d ts) ≡ 0 = ap unsigned_abs e in
         omega (arith, z)
-    rest d false q k = subst (λ z. unsigned_abs z ≤ n) (zero_left (factor d ts)) k
-      where
-        zero_left : (x : ℤ) → pos 0 +ℤ x ≡ x
-        zero_left x = omega (arith, ints)
+    rest d false q k = subst (λ z. unsigned_abs z ≤ n) (zero_plus (factor d ts)) k

@@ -4,6 +4,7 @@ use Rattle.std.proofs.Common.{◌≡◌, ℕ, zero, suc, ◌==◌, ◌<◌, ◌�
 use Rattle.std.specs.Int.RustNames.{unsigned_abs}
 use Rattle.std.proofs.lemmas.Int.{ints}
 use Rattle.std.proofs.lemmas.Bool.Decides.{nat_tests}
+use Rattle.homeo_lemmas.proofs.Integers.{is_zero_plus}
 use Rattle.homeo_plan.specs.declared.forms.Delta.{Delta}
 use Rattle.homeo_plan.specs.Linear.{delta_of, same_delta, Linear}
 use Rattle.homeo_plan.proofs.Factors.{same_delta_is, at_delta, factor}
@@ -38,9 +39,6 @@ none_behind i x j (suc n) d h =
     go true v q ih = omega (arith, ints, ih)
     go false v q ih = ap (λ w. cond w (pos 1) (pos 0) +ℤ others_from i x (suc j) n d) q ∙ omega (arith, ints, ih)
 
-plus_zero : (z : ℤ) → z ≡ pos 0 +ℤ z
-plus_zero z = omega (arith, ints)
-
 pub others_bit : (i x j n : ℕ) (d : Delta) → IsBit (others_from i x j n d)
 unfolding definitions
 others_bit i x j zero d = zero_bit
@@ -52,11 +50,11 @@ others_bit i x j (suc n) d = go (i == j) (same_delta (delta_of x j) d) refl (oth
     go :
         (u v : Bool) → same_delta (delta_of x j) d ≡ v → IsBit (others_from i x (suc j) n d) →
         IsBit (cond u (pos 0) (cond v (pos 1) (pos 0)) +ℤ others_from i x (suc j) n d)
-    go true v q ih = subst IsBit (plus_zero (others_from i x (suc j) n d)) ih
+    go true v q ih = subst IsBit (is_zero_plus (others_from i x (suc j) n d)) ih
     go false true q ih =
         let e : j ≡ d.site = ap (λ s. s.site) (same_delta_is (delta_of x j) d q) in
         one (others_from i x (suc j) n d) (none_behind i x (suc j) n d (omega (arith, e)))
-    go false false q ih = subst IsBit (plus_zero (others_from i x (suc j) n d)) ih
+    go false false q ih = subst IsBit (is_zero_plus (others_from i x (suc j) n d)) ih
 
 -- the own delta is none of them
 pub none_own : (i x j n : ℕ) (d : Delta) → same_delta (delta_of x i) d ≡ true → others_from i x j n d ≡ pos 0

@@ -22,7 +22,7 @@ use Rattle.homeo_plan.proofs.Stepped.{stepped}
 use Rattle.homeo_meaning.specs.Schema.{Schema}
 
 -- ---- deltas 0 keep every treaty
-site_sum_zero : (i : ℕ) (ts : List Term) → site_sum i ts no_deltas ≡ pos 0
+pub site_sum_zero : (i : ℕ) (ts : List Term) → site_sum i ts no_deltas ≡ pos 0
 unfolding definitions meaning_definitions
 site_sum_zero i [] = refl
 site_sum_zero i (t ∷ ts) = ap₂ ◌+ℤ◌ (go (t.delta.site == i)) (site_sum_zero i ts)
@@ -31,13 +31,13 @@ site_sum_zero i (t ∷ ts) = ap₂ ◌+ℤ◌ (go (t.delta.site == i)) (site_sum
     go true = omega (arith, ints)
     go false = refl
 
-bound_not_negative : (ns : List ℤ) (i : ℕ) → Each (λ n. pos 0 ≤ℤ n) ns → pos 0 ≤ℤ bound_at ns i
+pub bound_not_negative : (ns : List ℤ) (i : ℕ) → Each (λ n. pos 0 ≤ℤ n) ns → pos 0 ≤ℤ bound_at ns i
 unfolding definitions meaning_definitions
 bound_not_negative [] i h = omega (arith, ints)
 bound_not_negative (n ∷ ns) zero h = h.0
 bound_not_negative (n ∷ ns) (suc i) h = bound_not_negative ns i h.1
 
-zero_keeps_clauses : (k i : ℕ) (cs : List Clause) (bs : Config) → Fits k cs bs → KeepsClauses i no_deltas cs bs
+pub zero_keeps_clauses : (k i : ℕ) (cs : List Clause) (bs : Config) → Fits k cs bs → KeepsClauses i no_deltas cs bs
 unfolding definitions meaning_definitions
 zero_keeps_clauses k i [] bs f = tt
 zero_keeps_clauses k i (c ∷ cs) [] f = absurd f

@@ -6,6 +6,7 @@ use Rattle.std.specs.Prelude.{◌==◌, if◌then◌else◌}
 use Rattle.std.specs.List.{range_with_len, flat_map}
 use Rattle.std.proofs.lemmas.List.FromFn.{length-map-range_with_len}
 use Rattle.std.proofs.lemmas.List.Sums.{sum_by-cons}
+use Rattle.homeo_lemmas.proofs.Lists.{not_nil}
 use Rattle.homeo_syntax.specs.Source as s
 use Rattle.homeo_syntax.specs.declared.phrase.Number.{Number}
 use Rattle.homeo_meaning.specs.declared.call.Purpose.TheVariants.{Run}
@@ -83,9 +84,6 @@ light_number : (z : ℤ) → int_lt (pos 1000) z ≡ false → nat_of z ≤ most
 unfolding meaning_definitions
 light_number (pos n) e = grind arith
 light_number (negsuc n) e = omega arith
-
-not_nil : {X : Type 0} (x : X) (xs : List X) → x ∷ xs ≡ [] → ⊥
-not_nil x xs e = cc
 
 light_weight : (n : Number) → too_heavy n ≡ [] → IsLight n
 unfolding meaning_definitions

@@ -4,11 +4,12 @@ use Rattle.homeo_meaning.specs.Key.{definitions as meaning_definitions}
 use Rattle.std.proofs.Common.{◌≡◌, ℕ, zero, suc, ◌+◌, ◌*◌, ◌≤◌, Bool, true, false, cond, List, [], ◌∷◌, ℤ, pos, ◌+ℤ◌, refl, sym, subst, arith, ◌<◌}
 use Rattle.std.specs.Int.RustNames.{unsigned_abs}
 use Rattle.std.proofs.lemmas.Int.{ints}
+use Rattle.homeo_lemmas.proofs.Integers.{plus_zero}
 use Rattle.homeo_meaning.specs.LowMeaning.{Location, TempAt, BaseAt, DeltaAt, whole}
 use Rattle.homeo_meaning.specs.LowWeights.{first_weights, is_light}
 use Rattle.homeo_meaning.specs.Schema.{Schema}
-use Rattle.homeo_meaning.specs.Bounds.{Bounds, IsIn, all_bounds, bounds_at, AllWithin}
-use Rattle.homeo_meaning.specs.LowWeights.{weight_at, bounds_weight}
+use Rattle.homeo_meaning.specs.Bounds.{Bounds, all_bounds, AllWithin}
+use Rattle.homeo_meaning.specs.LowWeights.{weight_at}
 use Rattle.homeo_meaning.specs.Small.{IsSmall}
 use Rattle.homeo_plan.specs.Split.{shift}
 use Rattle.homeo_plan.specs.Table.{last_row, walk_before, walk}
@@ -24,25 +25,13 @@ use Rattle.homeo_plan.proofs.WholeReads.{Own, Holds}
 use Rattle.homeo_plan.proofs.Followed.{follow}
 use Rattle.homeo_syntax.specs.Low.{Command}
 use Rattle.homeo_meaning.specs.Whole.{IsWhole}
-
-in_size : (x : Bounds) (v : ℤ) → IsIn x v → unsigned_abs v ≤ bounds_weight x
-unfolding meaning_definitions
-in_size x v h = grind (arith, ints, h.0, h.1)
-
-pub size_at : (bs : List Bounds) (n : ℕ) (v : ℤ) → IsIn (bounds_at bs n) v → unsigned_abs v ≤ weight_at bs n
-unfolding meaning_definitions
-size_at [] n v h = grind (arith, ints, h.0, h.1)
-size_at (b ∷ bs) zero v h = in_size b v h
-size_at (b ∷ bs) (suc n) v h = size_at bs n v h
+use Rattle.homeo_lform.proofs.Light.{size_at}
 
 pub one_at : (bs : List Bounds) (n : ℕ) → 1 ≤ weight_at bs n
 unfolding meaning_definitions
 one_at [] n = omega arith
 one_at (b ∷ bs) zero = omega arith
 one_at (b ∷ bs) (suc n) = one_at bs n
-
-plus_zero : (z : ℤ) → z +ℤ pos 0 ≡ z
-plus_zero z = omega (arith, ints)
 
 one_of : (o : ℤ) (b : Bool) → IsBit o → (b ≡ true → o ≡ pos 0) → unsigned_abs (o +ℤ (cond b (pos 1) (pos 0) +ℤ pos 0)) ≤ 1
 one_of o true t h =

@@ -1,9 +1,11 @@
 -- What a linear form says of its expression's value.
 use Rattle.homeo_meaning.specs.Key.{definitions as meaning_definitions}
 use Rattle.homeo_plan.specs.Key.{definitions}
-use Rattle.std.proofs.Common.{◌≡◌, ◌&&◌, Bool, true, false, cond, List, [], ◌∷◌, ℤ, pos, negsuc, ◌+ℤ◌, ◌*ℤ◌, neg_ℤ, refl, sym, ap, ap₂, ◌∙◌, subst, true≢false, arith}
+use Rattle.std.proofs.Common.{◌≡◌, Bool, true, false, cond, List, [], ◌∷◌, ℤ, pos, negsuc, ◌+ℤ◌, ◌*ℤ◌, neg_ℤ, refl, sym, ap, ap₂, ◌∙◌, subst, true≢false, arith}
 use Rattle.std.proofs.lemmas.Int.{ints}
 use Rattle.std.specs.Ordering.{int_eq}
+use Rattle.std.proofs.lemmas.Bool.{and_parts}
+use Rattle.homeo_lemmas.proofs.Integers.{plus_turned}
 use Rattle.homeo_syntax.specs.Low.{Expr, Exprs, Literal, OfTemp, Read, Sum, Product, Neg, NoExpr, MoreExpr}
 use Rattle.homeo_meaning.specs.LowMeaning.{TempAt, DeltaAt, State, location_of, value, sum_value, product_value}
 use Rattle.homeo_plan.specs.declared.forms.Delta.{Delta}
@@ -100,15 +102,10 @@ unfolding definitions meaning_definitions
 is_empty_is [] h = refl
 is_empty_is (x ∷ xs) h = absurd (true≢false (sym h))
 
-both_true : (a b : Bool) → (a && b) ≡ true → (a ≡ true) × (b ≡ true)
-unfolding definitions meaning_definitions
-both_true true b h = (refl, h)
-both_true false b h = absurd (true≢false (sym h))
-
 is_pure_value : (a : Linear) (s : State) (x : ℤ) → is_pure a ≡ true → Is a s x → x ≡ a.constant
 unfolding definitions meaning_definitions
 is_pure_value a s x p h =
-    let q = both_true (is_empty a.terms) (is_empty a.mixed) p in
+    let q = and_parts (is_empty a.terms) (is_empty a.mixed) p in
     h (subst (Each (IsZeroAt s)) (sym (is_empty_is a.mixed q.1)) tt)
     ∙ ap (λ ts. a.constant +ℤ terms_value ts s) (is_empty_is a.terms q.0)
     ∙ omega (arith, ints)
@@ -222,11 +219,8 @@ tracks_add a b s s' x x' y y' hx hy =
 -- added in front
 tracks_more : (a b : Linear) (s s' : State) (x x' y y' : ℤ) → Tracks a s s' x x' → Tracks b s s' y y' → Tracks (add_forms b a) s s' (x +ℤ y) (x' +ℤ y')
 tracks_more a b s s' x x' y y' hx hy =
-    subst (λ z. Tracks (add_forms b a) s s' z (x' +ℤ y')) (swap y x)
-    (subst (λ z. Tracks (add_forms b a) s s' (y +ℤ x) z) (swap y' x') (tracks_add b a s s' y y' x x' hy hx))
-  where
-    swap : (m n : ℤ) → m +ℤ n ≡ n +ℤ m
-    swap m n = omega (arith, ints)
+    subst (λ z. Tracks (add_forms b a) s s' z (x' +ℤ y')) (plus_turned y x)
+    (subst (λ z. Tracks (add_forms b a) s s' (y +ℤ x) z) (plus_turned y' x') (tracks_add b a s s' y y' x x' hy hx))
 
 pub tracks_constant : (n : ℤ) (s s' : State) → Tracks (constant_form n) s s' n n
 unfolding definitions meaning_definitions

@@ -4,6 +4,7 @@ use Rattle.homeo_meaning.specs.Key.{definitions as meaning_definitions}
 use Rattle.std.proofs.Common.{◌≡◌, ℕ, zero, suc, ◌==◌, ◌+◌, ◌*◌, ◌≤◌, Bool, true, false, cond, [], ℤ, pos, negsuc, ◌+ℤ◌, ◌*ℤ◌, refl, sym, ap, ◌∙◌, subst, arith}
 use Rattle.std.specs.Int.RustNames.{unsigned_abs}
 use Rattle.std.proofs.lemmas.Int.{ints}
+use Rattle.homeo_lemmas.proofs.Integers.{minus_itself}
 use Rattle.homeo_syntax.specs.declared.low.SplitName.TheVariants as split
 use Rattle.homeo_syntax.specs.Low.{Expr, Exprs, Read, Sum, Neg, MoreExpr}
 use Rattle.homeo_meaning.specs.LowMeaning.{Location, BaseAt, DeltaAt}
@@ -23,9 +24,6 @@ use Rattle.homeo_plan.proofs.Made.{Made}
 abbrev pub own_value : ℕ → ℕ → ℕ → Expr → Expr
 unfolding definitions
 own_value k i x e = Sum (MoreExpr e (MoreExpr (Neg (Read (split.Base x))) (other_deltas i x 0 k)))
-
-minus_one : (z : ℤ) → (negsuc 0 *ℤ z) +ℤ z ≡ pos 0
-minus_one z = omega (arith, ints)
 
 near : (a t g o : ℤ) (n : ℕ) → IsBit t → IsBit o → a +ℤ t ≡ g +ℤ o → unsigned_abs g ≤ n → unsigned_abs a ≤ n + 1
 near a t g o n p q e h = grind (arith, ints, p.low, p.high, q.low, q.high, e, h)
@@ -78,7 +76,7 @@ module _ (k i m : ℕ) (f : Forms) (x : ℕ) (y : ℤ) (g : Delta → ℤ) where
   unfolding definitions
   take_off j n a q s p =
       record {
-        constant = omega (arith, ints, p.constant, s.constant, minus_one (f (DeltaAt x j)).constant);
+        constant = omega (arith, ints, p.constant, s.constant, minus_itself (f (DeltaAt x j)).constant);
         factors = λ d. factors d;
         sorted = sorted_adds (scale_terms (negsuc 0) (f (DeltaAt x j)).terms) a.terms p.sorted;
       }
@@ -96,7 +94,7 @@ module _ (k i m : ℕ) (f : Forms) (x : ℕ) (y : ℤ) (g : Delta → ℤ) where
           let scaled : factor d (scale_form (negsuc 0) (f (DeltaAt x j))).terms ≡ negsuc 0 *ℤ at_delta (delta_of x j) (pos 1) d =
           scale_terms_factor (negsuc 0) (f (DeltaAt x j)).terms d ∙ ap (λ z. negsuc 0 *ℤ z) (s.factors d) in
           ap (λ z. z +ℤ others_from i x 0 k d) (add_terms_factor (scale_form (negsuc 0) (f (DeltaAt x j))).terms a.terms d)
-          ∙ omega (arith, ints, scaled, minus_one (at_delta (delta_of x j) (pos 1) d), one, whole)
+          ∙ omega (arith, ints, scaled, minus_itself (at_delta (delta_of x j) (pos 1) d), one, whole)
 
   pub taken :
       (w : ℕ) → w + 1 ≤ m → unsigned_abs y ≤ m → ((d : Delta) → unsigned_abs (g d) ≤ w) →
@@ -130,7 +128,7 @@ pub record Wrote (Can : Type 0) (k i : ℕ) (base : ℕ → ℤ) (x n : ℕ) (a 
   pub own : Own k i base x n a
 
 off_size : (z y : ℤ) (n b : ℕ) → unsigned_abs z ≤ n → unsigned_abs y ≤ b → unsigned_abs (z +ℤ (negsuc 0 *ℤ y)) ≤ n + b
-off_size z y n b h l = grind (arith, ints, h, l, minus_one y)
+off_size z y n b h l = grind (arith, ints, h, l, minus_itself y)
 
 module _ (b k i : ℕ) (base : ℕ → ℤ) (small : (x : ℕ) → unsigned_abs (base x) ≤ b) (v : Location → ℕ) (f : Forms) (h : Holds k i base v f) where
   pub written :
@@ -184,7 +182,7 @@ module _ (b k i : ℕ) (base : ℕ → ℤ) (small : (x : ℕ) → unsigned_abs 
       start_constant c y z e = ap (λ u. (negsuc 0 *ℤ u) +ℤ (c +ℤ pos 0)) e ∙ omega (arith, ints)
 
       back : (c y z : ℤ) → z ≡ c +ℤ (negsuc 0 *ℤ y) → y +ℤ z ≡ c
-      back c y z e = omega (arith, ints, e, minus_one y)
+      back c y z e = omega (arith, ints, e, minus_itself y)
 
       turn : (c t g : ℤ) → c +ℤ t ≡ g → t +ℤ c ≡ g
       turn c t g e = omega (arith, ints, e)
