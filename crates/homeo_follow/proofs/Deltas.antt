@@ -4,6 +4,8 @@ use Rattle.std.proofs.Common.{◌≡◌, ℕ, ◌==◌, Bool, true, false, cond,
 use Rattle.std.specs.Ordering.{int_eq}
 use Rattle.std.proofs.lemmas.Int.{ints}
 use Rattle.std.proofs.lemmas.Bool.Decides.{nat_tests}
+use Rattle.homeo_lemmas.proofs.Bools.{or_assoc}
+use Rattle.homeo_lemmas.proofs.Integers.{is_zero_plus}
 use Rattle.homeo_plan.specs.declared.forms.Delta.{Delta}
 use Rattle.homeo_plan.specs.declared.forms.Term.{Term}
 use Rattle.homeo_plan.specs.Linear.{AreInOrder, same_delta, add_deltas, deltas_of}
@@ -15,11 +17,7 @@ use Rattle.homeo_follow.proofs.Terms.{AllCount}
 
 pub has_append : (d : Delta) (ds es : List Delta) → has d (ds ++ es) ≡ (has d ds || has d es)
 has_append d [] es = refl
-has_append d (x ∷ ds) es = ap (λ b. same_delta d x || b) (has_append d ds es) ∙ assoc (same_delta d x) (has d ds) (has d es)
-  where
-    assoc : (a b c : Bool) → (a || (b || c)) ≡ ((a || b) || c)
-    assoc true b c = refl
-    assoc false b c = refl
+has_append d (x ∷ ds) es = ap (λ b. same_delta d x || b) (has_append d ds es) ∙ or_assoc (same_delta d x) (has d ds) (has d es)
 
 -- ---- the deltas of terms
 -- a delta is there where its factor isn't 0
@@ -35,10 +33,7 @@ has_term d (t ∷ ts) s c = go (same_delta t.delta d) refl (has_term d ts s.1 c.
     none z f e h = grind (arith, ints)
 
     other : (z : ℤ) → int_eq z (pos 0) ≡ int_eq (pos 0 +ℤ z) (pos 0)
-    other z = ap (λ y. int_eq y (pos 0)) (zero_left z)
-      where
-        zero_left : (x : ℤ) → x ≡ pos 0 +ℤ x
-        zero_left x = omega (arith, ints)
+    other z = ap (λ y. int_eq y (pos 0)) (is_zero_plus z)
 
     go :
         (v : Bool) → same_delta t.delta d ≡ v → has d (deltas_of ts) ≡ not (int_eq (factor d ts) (pos 0)) →

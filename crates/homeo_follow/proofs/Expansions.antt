@@ -15,8 +15,9 @@ use Rattle.homeo_plan.proofs.Order.{Above, Sorted, sorted_adds, sorted_scale}
 use Rattle.homeo_plan.proofs.Sums.{sum_same, sum_at}
 use Rattle.homeo_follow.specs.Expanded.{terms_from, deltas_from, expanded_terms, expanded_deltas, expanded}
 use Rattle.homeo_follow.specs.Follow.{object_delta, object_form}
-use Rattle.homeo_follow.proofs.Terms.{AllCount, OfEach, count_adds, count_scale, each_adds, each_scale, same_terms, factor_append, each_append, sorted_append}
+use Rattle.homeo_follow.proofs.Terms.{AllCount, OfEach, count_adds, count_scale, each_adds, each_scale, same_terms, factor_append, sorted_append}
 use Rattle.homeo_plan.proofs.DeltaLists.{each_puts, has, has_adds, After, in_order_adds, terms_in_order, same_deltas}
+use Rattle.homeo_plan.proofs.Atoms.{append_each}
 use Rattle.homeo_follow.proofs.Deltas.{has_term, and_or}
 
 -- ---- lists over whole objects
@@ -109,7 +110,7 @@ unfolding definitions plan_definitions
 above_expanded d i k [] o h a = tt
 above_expanded d i k (t ∷ ts) o h a =
     let l : d.object < t.delta.object = grind (arith, nat_tests, o, h.0, a.0) in
-    each_append _ (terms_from 0 k t.delta.object t.factor) (expanded_terms k ts) (object_above d.object i 0 k t.delta.object t.factor l) (above_expanded d i k ts o h.1 a.1)
+    append_each _ (terms_from 0 k t.delta.object t.factor) (expanded_terms k ts) (object_above d.object i 0 k t.delta.object t.factor l) (above_expanded d i k ts o h.1 a.1)
 
 each_above : (d : Delta) (k j n : ℕ) (f : ℤ) (ts : List Term) → IsObject d → OfEach IsObject ts → Above d ts → Each (λ t. Above t.delta (expanded_terms k ts)) (terms_from j n d.object f)
 unfolding definitions plan_definitions
@@ -131,7 +132,7 @@ count_from j (suc n) x f c = (c, count_from (suc j) n x f c)
 pub count_expanded : (k : ℕ) (ts : List Term) → AllCount ts → AllCount (expanded_terms k ts)
 unfolding definitions plan_definitions
 count_expanded k [] c = tt
-count_expanded k (t ∷ ts) c = each_append _ (terms_from 0 k t.delta.object t.factor) (expanded_terms k ts) (count_from 0 k t.delta.object t.factor c.0) (count_expanded k ts c.1)
+count_expanded k (t ∷ ts) c = append_each _ (terms_from 0 k t.delta.object t.factor) (expanded_terms k ts) (count_from 0 k t.delta.object t.factor c.0) (count_expanded k ts c.1)
 
 -- ---- deltas
 deltas_of_from : (j n x : ℕ) (f : ℤ) (ts : List Term) → deltas_of (terms_from j n x f ++ ts) ≡ deltas_from j n x ++ deltas_of ts

@@ -2,11 +2,13 @@
 use Rattle.homeo_meaning.specs.Key.{definitions as meaning_definitions}
 use Rattle.homeo_plan.specs.Key.{definitions as plan_definitions}
 use Rattle.homeo_follow.specs.Key.{definitions}
-use Rattle.std.proofs.Common.{◌≡◌, ℕ, ◌==◌, ◌<◌, Bool, true, false, cond, not, ◌||◌, ◌&&◌, List, [], ◌∷◌, ◌++◌, map, ℤ, pos, negsuc, ◌+ℤ◌, ◌*ℤ◌, refl, sym, ap, ap₂, ◌∙◌, arith}
+use Rattle.std.proofs.Common.{◌≡◌, ℕ, ◌==◌, ◌<◌, Bool, true, false, cond, not, ◌||◌, ◌&&◌, List, [], ◌∷◌, ◌++◌, map, ℤ, pos, negsuc, ◌+ℤ◌, refl, sym, ap, ap₂, ◌∙◌, arith}
 use Rattle.std.specs.List.{list_any}
 use Rattle.std.specs.Ordering.{int_eq}
 use Rattle.std.proofs.lemmas.Int.{ints}
 use Rattle.std.proofs.lemmas.Bool.Decides.{nat_tests}
+use Rattle.homeo_lemmas.proofs.Bools.{or_false}
+use Rattle.homeo_lemmas.proofs.Integers.{minus_itself}
 use Rattle.homeo_syntax.specs.declared.low.SplitName.TheVariants.{Whole, Base, Delta}
 use Rattle.homeo_syntax.specs.Low.{Command, Commands, Skip, Assign, Write, Print, Seq, If, NoCommand, MoreCommand}
 use Rattle.homeo_meaning.specs.LowMeaning.{BaseAt, DeltaAt, holds, exec, whole}
@@ -26,7 +28,7 @@ use Rattle.homeo_follow.proofs.Walked.{constants, holds_constant, state_after, a
 use Rattle.homeo_plan.proofs.DeltaLists.{each_puts, has, has_adds, any_add, or_move, in_order_adds, same_deltas}
 use Rattle.homeo_follow.proofs.Deltas.{has_term, has_remote, ordered_remote, remote_puts}
 use Rattle.homeo_follow.proofs.Expansions.{IsObject, IsTidy, tidy_object, tidy_scale, tidy_add, ordered_expanded, expanded_puts, expanded_add, expanded_times, expanded_support, sorted_expanded, count_expanded, support_objects, support_ordered}
-use Rattle.homeo_follow.proofs.Standing.{IsOwn, own_begins, stands_at_base, or_false}
+use Rattle.homeo_follow.proofs.Standing.{IsOwn, own_begins, stands_at_base}
 use Rattle.homeo_follow.proofs.Simulated.{Follows, follows}
 use Rattle.homeo_follow.proofs.PlannedAtoms.{no_temps}
 
@@ -186,11 +188,9 @@ module _ (k i : ℕ) (inside : i < k) (b : ℕ → ℤ) where
         (own_begins k i inside b x).factors e,
         o.factors e,
         own_elsewhere,
-        minus_one (factor e (expanded k object).terms),
+        minus_itself (factor e (expanded k object).terms),
       )
     where
-      minus_one : (z : ℤ) → (negsuc 0 *ℤ z) +ℤ z ≡ pos 0
-      minus_one z = omega (arith, ints)
 
       own_elsewhere : factor e (delta_form (delta_of x i)).terms ≡ pos 0
       own_elsewhere = go (same_delta (delta_of x i) e) refl

@@ -16,7 +16,7 @@ use Rattle.homeo_plan.specs.Atoms.{difference, true_comparison, false_comparison
 use Rattle.homeo_follow.specs.Expanded.{expanded}
 use Rattle.homeo_follow.specs.Follow.{passes_by, holds_by, passed_test, failed_test, passed, failed, Followed, asked, follow, follow_all}
 use Rattle.homeo_plan.specs.Each.{Each}
-use Rattle.homeo_follow.proofs.Terms.{each_append}
+use Rattle.homeo_plan.proofs.Atoms.{append_each}
 use Rattle.homeo_follow.proofs.Expansions.{IsTidy, tidy_constant, tidy_add, tidy_scale, tidy_multiply, expanded_add, expanded_times, expanded_multiply}
 use Rattle.homeo_follow.proofs.Standing.{Stands, reads, own_written, stands_temp, stands_object}
 
@@ -65,7 +65,7 @@ module _ (k i : ℕ) (inside : i < k) (b : ℕ → ℤ) where
 
   are_append : (fs cs hs ds : List Linear) → Are fs cs → Are hs ds → Are (fs ++ hs) (cs ++ ds)
   are_append fs cs hs ds p q =
-      record { same = ap₂ ◌++◌ p.same q.same ∙ sym (map-append (expanded k) cs ds); tidy = each_append IsTidy cs ds p.tidy q.tidy }
+      record { same = ap₂ ◌++◌ p.same q.same ∙ sym (map-append (expanded k) cs ds); tidy = append_each IsTidy cs ds p.tidy q.tidy }
 
   are_same : (fs hs cs : List Linear) → fs ≡ hs → Are hs cs → Are fs cs
   are_same fs hs cs e p = record { same = e ∙ p.same; tidy = p.tidy }

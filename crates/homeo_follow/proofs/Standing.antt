@@ -5,6 +5,8 @@ use Rattle.homeo_follow.specs.Key.{definitions}
 use Rattle.std.proofs.Common.{◌≡◌, ℕ, zero, suc, ◌==◌, ◌+◌, ◌<◌, ◌≤◌, Bool, true, false, cond, ◌||◌, ◌&&◌, [], ℤ, pos, negsuc, ◌+ℤ◌, ◌*ℤ◌, refl, sym, ap, ap₂, ◌∙◌, subst, arith}
 use Rattle.std.proofs.lemmas.Int.{ints}
 use Rattle.std.proofs.lemmas.Bool.Decides.{nat_tests}
+use Rattle.homeo_lemmas.proofs.Bools.{or_false}
+use Rattle.homeo_lemmas.proofs.Integers.{minus_itself}
 use Rattle.homeo_syntax.specs.declared.low.Temp.{Temp}
 use Rattle.homeo_syntax.specs.declared.low.SplitName.TheVariants as split
 use Rattle.homeo_syntax.specs.Low.{Expr, Exprs, Read, Sum, Neg, NoExpr, MoreExpr}
@@ -41,10 +43,6 @@ ordered_sum f (MoreExpr e es) a o = ordered_sum f es (add_forms (form f e) a) (i
 abbrev any_from : ℕ → ℕ → (ℕ → Bool) → Bool
 any_from j zero p = false
 any_from j (suc n) p = p j || any_from (suc j) n p
-
-pub or_false : (b : Bool) → (b || false) ≡ b
-or_false true = refl
-or_false false = refl
 
 or_three : (a b c : Bool) → ((a || b) || c) ≡ (b || (a || c))
 or_three true true c = refl
@@ -94,9 +92,6 @@ module _ (f : Forms) (x : ℕ) where
       mixed_reads d n (suc j) (add_forms (f (DeltaAt x j)) a)
       ∙ ap (λ b. b || any_from (suc j) n (λ m. has d (f (DeltaAt x m)).mixed)) (has_adds d (f (DeltaAt x j)).mixed a.mixed)
       ∙ or_three (has d (f (DeltaAt x j)).mixed) (has d a.mixed) (any_from (suc j) n (λ m. has d (f (DeltaAt x m)).mixed))
-
-minus_one : (z : ℤ) → (negsuc 0 *ℤ z) +ℤ z ≡ pos 0
-minus_one z = omega (arith, ints)
 
 module _ (k i : ℕ) (inside : i < k) (b : ℕ → ℤ) where
   -- how often a delta is one of an object's at the other sites
@@ -301,7 +296,7 @@ module _ (k i : ℕ) (inside : i < k) (b : ℕ → ℤ) where
                 ih (add_forms (scale_form (negsuc 0) u) a),
                 add_terms_factor (scale_terms (negsuc 0) u.terms) a.terms d,
                 one u (h.deltas x j e),
-                minus_one (at_delta (delta_of x j) (pos 1) d),
+                minus_itself (at_delta (delta_of x j) (pos 1) d),
               )
 
       mixed_others : (n j : ℕ) (a : Linear) → (sum_form f a (other_deltas i x j n)).mixed ≡ a.mixed

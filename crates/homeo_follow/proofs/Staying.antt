@@ -14,8 +14,7 @@ use Rattle.homeo_plan.specs.Linear.{Linear, add_deltas, support, constant_form, 
 use Rattle.homeo_follow.specs.Brought.{brought}
 use Rattle.homeo_follow.specs.Follow.{passes_by, holds_by, passed_test, failed_test, passed, failed, Followed, asked, object_of, follow, follow_all, object_form, object_forms, followed, gain, print_needs, write_needs}
 use Rattle.homeo_follow.specs.Named.{named_in_expr, named_in_exprs, named_in_test, named_in_cond, named, named_in_all}
-use Rattle.homeo_plan.proofs.Atoms.{each_append as each_parts}
-use Rattle.homeo_follow.proofs.Terms.{each_append}
+use Rattle.homeo_plan.proofs.Atoms.{each_append as each_parts, append_each}
 
 module _ (b d : ℕ → ℤ) where
   -- the bases agree on the object
@@ -188,7 +187,7 @@ module _ (b d : ℕ → ℤ) where
           atoms = ap₂ ◌++◌ r.atoms s.atoms;
           prints = ap₂ ◌++◌ r.prints s.prints;
           written = ap₂ ◌++◌ r.written s.written;
-          agree = each_append Agree (follow c f).written (follow_all cs (follow c f).forms).written r.agree s.agree;
+          agree = append_each Agree (follow c f).written (follow_all cs (follow c f).forms).written r.agree s.agree;
           forms = s.forms;
         }
 

@@ -4,9 +4,9 @@ use Rattle.homeo_follow.specs.Key.{definitions}
 use Rattle.std.proofs.Common.{◌≡◌, ℕ, zero, suc, ◌==◌, ◌<◌, ◌≤◌, nat_lt, Bool, true, false, cond, not, ◌||◌, ◌&&◌, List, [], ◌∷◌, ◌++◌, map, ℤ, neg_ℤ, refl, sym, ap, ap₂, ◌∙◌, arith}
 use Rattle.std.specs.List.{list_any}
 use Rattle.std.specs.Ordering.{int_eq}
-use Rattle.std.proofs.lemmas.Int.{ints}
 use Rattle.std.proofs.lemmas.List.{map-append}
 use Rattle.std.proofs.lemmas.Bool.{and_parts}
+use Rattle.homeo_lemmas.proofs.Integers.{int_is, int_itself}
 use Rattle.homeo_meaning.specs.Whole.{IsWhole}
 use Rattle.homeo_plan.specs.Each.{Each}
 use Rattle.homeo_plan.specs.declared.forms.Delta.{Delta}
@@ -17,8 +17,9 @@ use Rattle.homeo_plan.proofs.Factors.{same_delta_is, same_delta_refl}
 use Rattle.homeo_follow.specs.Expanded.{terms_from, expanded_terms, expanded_deltas, expanded}
 use Rattle.homeo_follow.specs.Follow.{object_delta, object_forms, followed, needed}
 use Rattle.homeo_follow.specs.ObjectTemplate.{expanded_clause, followed_atoms, has_object, is_frozen, IsByObjects}
-use Rattle.homeo_follow.proofs.Terms.{OfEach, each_append}
+use Rattle.homeo_follow.proofs.Terms.{OfEach}
 use Rattle.homeo_plan.proofs.DeltaLists.{has, has_adds, or_move}
+use Rattle.homeo_plan.proofs.Atoms.{append_each}
 use Rattle.homeo_follow.proofs.Deltas.{has_remote, and_or}
 use Rattle.homeo_follow.proofs.Expansions.{IsObject, IsTidy, object_is, has_expanded, no_terms}
 use Rattle.homeo_follow.proofs.Standing.{stands_at_base}
@@ -29,10 +30,7 @@ use Rattle.homeo_follow.proofs.Needed.{AreObjects, objects_needed, needs_are_fol
 -- ---- equal clauses
 same_itself : (x j : ℕ) (f : ℤ) → same_term (record { delta = delta_of x j; factor = f }) (record { delta = delta_of x j; factor = f }) ≡ true
 unfolding plan_definitions
-same_itself x j f = ap₂ ◌&&◌ (same_delta_refl (delta_of x j)) (int_same f)
-  where
-    int_same : (z : ℤ) → int_eq z z ≡ true
-    int_same z = grind (arith, ints)
+same_itself x j f = ap₂ ◌&&◌ (same_delta_refl (delta_of x j)) (int_itself f)
 
 same_prefix : (j n x : ℕ) (f : ℤ) (ts us : List Term) → same_terms (terms_from j n x f ++ ts) (terms_from j n x f ++ us) ≡ same_terms ts us
 unfolding definitions plan_definitions
@@ -48,9 +46,6 @@ same_behind n x y f g ts us e =
     let objects : x ≡ y = ap (λ (d : Delta). d.object) (same_delta_is (delta_of x 0) (delta_of y 0) parts.0) in
     let factors : f ≡ g = int_is f g parts.1 in
     ap₂ (λ z h. same_terms (terms_from 1 n x f ++ ts) (terms_from 1 n z h ++ us)) (sym objects) (sym factors) ∙ same_prefix 1 n x f ts us
-  where
-    int_is : (a c : ℤ) → int_eq a c ≡ true → a ≡ c
-    int_is a c h = grind (arith, ints, h)
 
 and_same : (b p q : Bool) → (b ≡ true → p ≡ q) → (b && p) ≡ (b && q)
 and_same true p q h = h refl
@@ -110,7 +105,7 @@ module _ (k : ℕ) (some : 1 ≤ k) where
       go : (u v : Bool) → AreObjectClauses (cond u cs (cond v cs (cs ++ clause_of a ∷ [])))
       go true v = h
       go false true = h
-      go false false = each_append (λ c. OfEach IsObject c.terms) cs (clause_of a ∷ []) h (t.objects, tt)
+      go false false = append_each (λ c. OfEach IsObject c.terms) cs (clause_of a ∷ []) h (t.objects, tt)
 
   clauses_expanded : (fs : List Linear) (cs : List Clause) → Each IsTidy fs → AreObjectClauses cs →
       clauses_from (map (expanded_clause k) cs) (map (expanded k) fs) ≡ map (expanded_clause k) (clauses_from cs fs)
@@ -140,7 +135,7 @@ module _ (k : ℕ) (b : ℕ → ℤ) where
   unfolding definitions plan_definitions
   tidy_atoms [] h = tt
   tidy_atoms (g ∷ gs) h =
-      each_append IsTidy (followed b g.command).atoms (followed_atoms b gs)
+      append_each IsTidy (followed b g.command).atoms (followed_atoms b gs)
       (follows k g.site h.0.0 b g.command h.0.1 (base_forms b) (object_forms b) (stands_at_base k g.site h.0.0 b)).atoms.tidy (tidy_atoms gs h.1)
 
   pub atoms_are : (gs : List PlannedCall) → Each IsPlanned gs → atoms_of_sets (map (atoms_of k b) gs) ≡ map (expanded k) (followed_atoms b gs)

@@ -3,12 +3,14 @@ use Rattle.homeo_plan.specs.Key.{definitions as plan_definitions}
 use Rattle.std.proofs.Common.{◌≡◌, Bool, true, false, cond, List, [], ◌∷◌, ◌++◌, ℤ, pos, ◌+ℤ◌, ◌*ℤ◌, refl, sym, ap, ap₂, ◌∙◌, true≢false, arith}
 use Rattle.std.proofs.lemmas.Int.{ints}
 use Rattle.std.specs.Ordering.{int_eq}
+use Rattle.homeo_lemmas.proofs.Integers.{plus_cancel}
 use Rattle.homeo_plan.specs.Each.{Each}
 use Rattle.homeo_plan.specs.declared.forms.Delta.{Delta}
 use Rattle.homeo_plan.specs.declared.forms.Term.{Term}
 use Rattle.homeo_plan.specs.Linear.{same_delta, delta_before, with_term, add_term, add_terms, scale_terms}
 use Rattle.homeo_plan.proofs.Factors.{at_delta, factor, same_delta_is, before_total}
 use Rattle.homeo_plan.proofs.Order.{Above, Sorted, above_before, none_above, head_factor}
+use Rattle.homeo_plan.proofs.Atoms.{append_each}
 
 -- ---- factors that aren't 0
 abbrev pub AllCount : List Term → Type 0
@@ -77,14 +79,11 @@ module _ (P : Delta → Type 0) where
   each_scale n (t ∷ ts) h = each_with t.delta (n *ℤ t.factor) (scale_terms n ts) h.0 (each_scale n ts h.1)
 
 -- ---- lists in order that have the same factors
-add_cancel : (z x y : ℤ) → z +ℤ x ≡ z +ℤ y → x ≡ y
-add_cancel z x y h = omega (arith, ints, h)
-
 same_rest :
     (t u : Term) (d : Delta) (ts us : List Term) → t ≡ u → at_delta t.delta t.factor d +ℤ factor d ts ≡ at_delta u.delta u.factor d +ℤ factor d us →
     factor d ts ≡ factor d us
 same_rest t u d ts us p h =
-    add_cancel (at_delta t.delta t.factor d) (factor d ts) (factor d us) (h ∙ ap (λ (x : Term). at_delta x.delta x.factor d +ℤ factor d us) (sym p))
+    plus_cancel (at_delta t.delta t.factor d) (factor d ts) (factor d us) (h ∙ ap (λ (x : Term). at_delta x.delta x.factor d +ℤ factor d us) (sym p))
 
 is_nothing : (f : ℤ) → f ≡ pos 0 → int_eq f (pos 0) ≡ false → ⊥
 is_nothing f e c = true≢false (zero_is_zero f e ∙ c)
@@ -125,12 +124,7 @@ unfolding plan_definitions
 factor_append d [] us = omega (arith, ints)
 factor_append d (t ∷ ts) us = omega (arith, ints, factor_append d ts us)
 
-pub each_append : {X : Type 0} (P : X → Type 0) (xs ys : List X) → Each P xs → Each P ys → Each P (xs ++ ys)
-unfolding plan_definitions
-each_append P [] ys g h = h
-each_append P (x ∷ xs) ys g h = (g.0, each_append P xs ys g.1 h)
-
 pub sorted_append : (ts us : List Term) → Sorted ts → Sorted us → Each (λ t. Above t.delta us) ts → Sorted (ts ++ us)
 unfolding plan_definitions
 sorted_append [] us s r h = r
-sorted_append (t ∷ ts) us s r h = (each_append (λ u. delta_before t.delta u.delta ≡ true) ts us s.0 h.0, sorted_append ts us s.1 r h.1)
+sorted_append (t ∷ ts) us s r h = (append_each (λ u. delta_before t.delta u.delta ≡ true) ts us s.0 h.0, sorted_append ts us s.1 r h.1)

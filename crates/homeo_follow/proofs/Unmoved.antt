@@ -18,9 +18,9 @@ use Rattle.homeo_follow.specs.Brought.{brought}
 use Rattle.homeo_follow.specs.Follow.{passes_by, holds_by, passed_test, failed_test, passed, failed, Followed, asked, object_of, follow, follow_all, object_forms, followed, needed}
 use Rattle.homeo_follow.specs.Named.{named_in_expr, named_in_exprs, named_in_test, named_in_cond, named, named_in_all}
 use Rattle.homeo_follow.specs.Rebased.{gained, rebased_form, rebased, gains}
-use Rattle.homeo_plan.proofs.Atoms.{each_append as each_parts}
+use Rattle.homeo_plan.proofs.Atoms.{each_append as each_parts, append_each}
 use Rattle.homeo_follow.proofs.Staying.{parts_stay}
-use Rattle.homeo_follow.proofs.Terms.{OfEach, each_adds, each_scale, each_append}
+use Rattle.homeo_follow.proofs.Terms.{OfEach, each_adds, each_scale}
 
 -- what holds of both holds of the one that is taken
 either : {X : Type 0} (Q : X → Type 0) (v : Bool) (x y : X) → Q x → Q y → Q (cond v x y)
@@ -135,7 +135,7 @@ module _ (P : ℕ → Type 0) where
       passed_of NoTest w = tt
       passed_of (MoreTest t c) w =
           let parts = each_parts P (named_in_test t) (named_in_cond c) w in
-          each_append IsOf (passed_test f t) (passed f c) (passed_test_of t parts.0) (passed_of c parts.1)
+          append_each IsOf (passed_test f t) (passed f c) (passed_test_of t parts.0) (passed_of c parts.1)
 
       failed_of : (c : Cond) → Each P (named_in_cond c) → Each IsOf (failed f c)
       failed_of NoTest w = tt
@@ -150,7 +150,7 @@ module _ (P : ℕ → Type 0) where
 
   asked_of : (xs : List Linear) (r : Followed) → Each IsOf xs → IsFollowedOf r → IsFollowedOf (asked xs r)
   unfolding definitions
-  asked_of xs r h s = record { atoms = each_append IsOf xs r.atoms h s.atoms; forms = s.forms }
+  asked_of xs r h s = record { atoms = append_each IsOf xs r.atoms h s.atoms; forms = s.forms }
 
   mutual
     unfolding definitions plan_definitions
@@ -174,7 +174,7 @@ module _ (P : ℕ → Type 0) where
         let parts = each_parts P (named c) (named_in_all cs) w in
         let r = follow_of c f parts.0 h in
         let s = follow_all_of cs (follow c f).forms parts.1 r.forms in
-        record { atoms = each_append IsOf (follow c f).atoms (follow_all cs (follow c f).forms).atoms r.atoms s.atoms; forms = s.forms }
+        record { atoms = append_each IsOf (follow c f).atoms (follow_all cs (follow c f).forms).atoms r.atoms s.atoms; forms = s.forms }
 
 -- ---- at two bases
 module _ (b d : ℕ → ℤ) where

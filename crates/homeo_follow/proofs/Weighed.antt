@@ -5,6 +5,7 @@ use Rattle.homeo_follow.specs.Key.{definitions}
 use Rattle.std.proofs.Common.{◌≡◌, ℕ, ◌+◌, ◌*◌, ◌≤◌, max, Bool, true, false, cond, List, [], ◌∷◌, ℤ, pos, ◌+ℤ◌, arith}
 use Rattle.std.specs.Int.RustNames.{unsigned_abs}
 use Rattle.std.proofs.lemmas.Bool.{and_parts}
+use Rattle.homeo_lemmas.proofs.Naturals.{product_positive, factor_le}
 use Rattle.homeo_syntax.specs.Low.{Expr, Exprs, Literal, OfTemp, Read, Sum, Product, Neg, NoExpr, MoreExpr, Test, Cond, True, Not, Comparison, NoTest, MoreTest, Command, Commands, Skip, Assign, Write, Print, Seq, If, NoCommand, MoreCommand}
 use Rattle.homeo_syntax.specs.Source as s
 use Rattle.homeo_meaning.specs.Acceptance.{weight_limit, IsAccepted}
@@ -20,6 +21,7 @@ use Rattle.homeo_meaning.specs.Small.{IsSmall}
 use Rattle.homeo_meaning.proofs.LightCalls.{ground_call_light}
 use Rattle.homeo_meaning.proofs.Sound.{sound}
 use Rattle.homeo_meaning.proofs.Within.{all_within}
+use Rattle.homeo_lform.proofs.Light.{weight_small, size_at}
 use Rattle.homeo_plan.specs.Limit.{form_limit}
 use Rattle.homeo_plan.proofs.GroundNumbers.{values_small}
 use Rattle.homeo_plan.specs.Each.{Each}
@@ -27,9 +29,9 @@ use Rattle.homeo_plan.specs.declared.forms.Term.{Term}
 use Rattle.homeo_plan.specs.Linear.{Linear, constant_form, add_forms, multiply_forms, same_delta, Forms, form, sum_form, product_form}
 use Rattle.homeo_plan.specs.FormSizes.{Numbers, CanForm, CanSum, CanProduct, CanSubtract, CanTest, CanCond}
 use Rattle.homeo_plan.proofs.Sizes.{Within, numbers, wider, within_constant, within_add, within_negated, within_multiply}
-use Rattle.homeo_plan.proofs.Made.{Made, one_weight, one_product, one_mul, factor_le}
-use Rattle.homeo_plan.proofs.MadeTests.{weight_small, subtract}
-use Rattle.homeo_plan.proofs.SmallForms.{size_at, one_at}
+use Rattle.homeo_plan.proofs.Made.{Made, one_weight, one_product}
+use Rattle.homeo_plan.proofs.MadeTests.{subtract}
+use Rattle.homeo_plan.proofs.SmallForms.{one_at}
 use Rattle.homeo_follow.specs.Follow.{holds_by, passed, failed, asked, follow, follow_all, object_delta, object_form, object_forms, followed}
 use Rattle.homeo_follow.specs.FollowSizes.{AreNumbers, CanBeFollowed, CanAllBeFollowed}
 
@@ -113,12 +115,12 @@ module _ (b limit : ℕ) (fits : 2 * b + 1 ≤ limit) where
           let rest = product_weight es v in
           let one_rest = one_product v h.ones es in
           let one_e = one_weight v h.ones e in
-          let whole_le : we ≤ we * (m * rest) = factor_le we (m * rest) (one_mul m rest one one_rest) in
-          let part : m ≤ m * (we * rest) = factor_le m (we * rest) (one_mul we rest one_e one_rest) in
+          let whole_le : we ≤ we * (m * rest) = factor_le we (m * rest) (product_positive m rest one one_rest) in
+          let part : m ≤ m * (we * rest) = factor_le m (we * rest) (product_positive we rest one_e one_rest) in
           let x = make e (omega (arith, l, whole_le)) in
           let same : (m * we) * rest ≡ m * (we * rest) = omega arith in
           let r =
-          product_make es (multiply_forms a (form f e)) (m * we) (within_multiply m we a (form f e) w x.within) (one_mul m we one one_e)
+          product_make es (multiply_forms a (form f e)) (m * we) (within_multiply m we a (form f e) w x.within) (product_positive m we one one_e)
           (omega (arith, l, same)) in
           record {
             can = (numbers limit m a (omega (arith, l, part, fits)) w, x.can, r.can);
