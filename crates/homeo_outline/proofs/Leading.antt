@@ -5,6 +5,9 @@ use Rattle.std.proofs.lemmas.Int.{ints}
 use Rattle.std.proofs.lemmas.Bool.Decides.{nat_tests}
 use Rattle.std.proofs.lemmas.List.{get_or-map}
 use Rattle.std.proofs.lemmas.List.Folds.{list_any_at, list_any-append}
+use Rattle.std.proofs.lemmas.Bool.{or_left, or_right}
+use Rattle.homeo_lemmas.proofs.Integers.{at_most_both}
+use Rattle.homeo_lemmas.proofs.Naturals.{nat_itself}
 use Rattle.homeo_plan.specs.declared.forms.Term.{Term}
 use Rattle.homeo_plan.specs.Template.{Clause}
 use Rattle.homeo_follow.specs.Key.{definitions as follow_definitions}
@@ -13,18 +16,11 @@ use Rattle.homeo_outline.specs.Leaders.{IsLed, Lead}
 use Rattle.homeo_outline.specs.Numbers.{has, clauses_on}
 use Rattle.homeo_outline.specs.ObjectPlan.{clauses_with}
 use Rattle.homeo_outline.specs.inner.Moved.{slack_at, moved_slack}
-use Rattle.homeo_outline.proofs.Numbers.{or_true}
 use Rattle.homeo_outline.proofs.Slacks.{clause_count, clause_read}
 
 -- ---- numbers in a list
-or_left : (a b : Bool) → a ≡ true → (a || b) ≡ true
-or_left a b e = ap (λ v. v || b) e
-
-same_number : (n : ℕ) → (n == n) ≡ true
-same_number n = grind (arith, nat_tests)
-
 pub has_at : (ns : List ℕ) (i d : ℕ) → i < length ns → has (get_or ns i d) ns ≡ true
-has_at ns i d lt = list_any_at (λ m. get_or ns i d == m) ns i d lt (same_number (get_or ns i d))
+has_at ns i d lt = list_any_at (λ m. get_or ns i d == m) ns i d lt (nat_itself (get_or ns i d))
 
 -- what is read where there is something
 pub read_alike : (ns : List ℕ) (i d e : ℕ) → i < length ns → get_or ns i d ≡ get_or ns i e
@@ -33,7 +29,7 @@ read_alike (n ∷ ns) zero d e lt = refl
 read_alike (n ∷ ns) (suc i) d e lt = read_alike ns i d e (omega (arith, lt))
 
 pub has_last : (v : ℕ) (ms : List ℕ) → has v (ms ++ v ∷ []) ≡ true
-has_last v ms = list_any-append (λ m. v == m) ms (v ∷ []) ∙ or_true (has v ms) _ (or_left (v == v) false (same_number v))
+has_last v ms = list_any-append (λ m. v == m) ms (v ∷ []) ∙ or_right (has v ms) _ (or_left (v == v) false (nat_itself v))
 
 -- in the place of another
 pub has_still : (l : ℕ) (ms : List ℕ) (k v : ℕ) → has l ms ≡ true → (l ≡ get_or ms k 0) ⊎ (has l (set ms k v) ≡ true)
@@ -42,7 +38,7 @@ has_still l (m ∷ ms) zero v h = go (l == m) refl h
   where
     go : (b : Bool) → (l == m) ≡ b → (b || has l ms) ≡ true → (l ≡ m) ⊎ (((l == v) || has l ms) ≡ true)
     go true e q = inl (grind (arith, nat_tests))
-    go false e q = inr (or_true (l == v) (has l ms) q)
+    go false e q = inr (or_right (l == v) (has l ms) q)
 has_still l (m ∷ ms) (suc k) v h = go (l == m) (has_still l ms k v) h
   where
     go :
@@ -53,21 +49,15 @@ has_still l (m ∷ ms) (suc k) v h = go (l == m) (has_still l ms k v) h
 
 pub has_put : (ms : List ℕ) (k v : ℕ) → k < length ms → has v (set ms k v) ≡ true
 has_put [] k v lt = absurd (omega (arith, lt))
-has_put (m ∷ ms) zero v lt = or_left (v == v) (has v ms) (same_number v)
-has_put (m ∷ ms) (suc k) v lt = or_true (v == m) (has v (set ms k v)) (has_put ms k v (omega (arith, lt)))
+has_put (m ∷ ms) zero v lt = or_left (v == v) (has v ms) (nat_itself v)
+has_put (m ∷ ms) (suc k) v lt = or_right (v == m) (has v (set ms k v)) (has_put ms k v (omega (arith, lt)))
 
 -- ---- numbers
 same_at_most : (a : ℤ) → a ≤ℤ a
 same_at_most a = grind (arith, ints)
 
-pub at_most_both : (a b c : ℤ) → a ≤ℤ b → b ≤ℤ c → a ≤ℤ c
-at_most_both a b c h g = grind (arith, ints)
-
 pub less_at_most : (a b : ℤ) → int_lt a b ≡ true → a ≤ℤ b
 less_at_most a b h = grind (arith, ints)
-
-pub not_less : (a b : ℤ) → int_lt a b ≡ false → b ≤ℤ a
-not_less a b h = grind (arith, ints)
 
 less_both : (a b c : ℤ) → a ≤ℤ b → (a +ℤ c) ≤ℤ (b +ℤ c)
 less_both a b c h = grind (arith, ints)

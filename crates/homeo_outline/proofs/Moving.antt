@@ -1,7 +1,7 @@
 -- Slacks are moved object by object: those of the clauses that name it, where it has another value.
 use Rattle.std.proofs.Common.{◌≡◌, ℕ, zero, suc, ◌==◌, ◌+◌, ◌<◌, ◌≤◌, Bool, true, false, cond, List, [], ◌∷◌, length, take, get_or, ℤ, pos, neg_ℤ, ◌+ℤ◌, ◌*ℤ◌, refl, sym, ap, ap₂, ◌∙◌, inl, inr, subst, arith}
 use Rattle.std.specs.Prelude.{◌⊎◌, ◌||◌}
-use Rattle.std.proofs.lemmas.Bool.{cases_lt, false≢true}
+use Rattle.std.proofs.lemmas.Bool.{cases_lt, false≢true, or_right}
 use Rattle.std.proofs.lemmas.Bool.Decides.{nat_tests}
 use Rattle.std.proofs.lemmas.Int.{ints}
 use Rattle.std.proofs.lemmas.List.Folds.{list_any_more}
@@ -91,17 +91,13 @@ module _ (g : ℕ → ℤ) (tss : List (List Term)) (ss : List ℤ) where
   unfolding follow_definitions
   none_gained [] h = refl
   none_gained (t ∷ ts) h =
-      nothing t.factor (g t.delta.object) (gained g ts) (h t.delta.object (named t.delta.object ts)) (none_gained ts (λ x e. h x (later (t.delta.object == x) (names_object x ts) e)))
+      nothing t.factor (g t.delta.object) (gained g ts) (h t.delta.object (named t.delta.object ts)) (none_gained ts (λ x e. h x (or_right (t.delta.object == x) (names_object x ts) e)))
     where
       nothing : (f m z : ℤ) → m ≡ pos 0 → z ≡ pos 0 → (f *ℤ m) +ℤ z ≡ pos 0
       nothing f m z e p = grind (arith, ints, e, p)
 
       named : (x : ℕ) (us : List Term) → ((x == x) || names_object x us) ≡ true
       named x us = let same : (x == x) ≡ true = grind (arith, nat_tests) in ap (λ b. b || names_object x us) same
-
-      later : (a b : Bool) → b ≡ true → (a || b) ≡ true
-      later true b e = refl
-      later false b e = e
 
   pub settled_all : (i : ℕ) (made : List ℤ) (n : ℕ) → ((x : ℕ) → i ≤ x → g x ≡ pos 0) → Settled i made n → slack_at made n ≡ moved_slack g tss ss n
   settled_all i made n none (inl p) = p

@@ -1,9 +1,10 @@
 -- Tables of numbers by object, as numbers are put in.
-use Rattle.std.proofs.Common.{◌≡◌, ℕ, ◌==◌, ◌+◌, ◌<◌, Bool, true, false, cond, ◌&&◌, List, [], ◌∷◌, ◌++◌, map, set, take, get_or, length, refl, sym, ap, ap₂, ◌∙◌, subst, arith, length-take}
+use Rattle.std.proofs.Common.{◌≡◌, ℕ, ◌==◌, ◌+◌, ◌<◌, Bool, true, false, cond, ◌&&◌, List, [], ◌∷◌, ◌++◌, map, set, take, get_or, length, refl, sym, ap, ap₂, ◌∙◌, subst, arith}
 use Rattle.std.specs.Prelude.{◌||◌}
 use Rattle.std.proofs.lemmas.Bool.Decides.{nat_tests}
 use Rattle.std.proofs.lemmas.List.{map-set, map-append, get_or-map, length-map, take_more}
 use Rattle.std.proofs.lemmas.List.Folds.{list_any-append, list_any_more}
+use Rattle.homeo_lemmas.proofs.Bools.{or_false}
 use Rattle.homeo_meaning.proofs.AbsentItems.{padded_more, padded_set}
 use Rattle.homeo_plan.specs.declared.forms.Term.{Term}
 use Rattle.homeo_outline.specs.Numbers.{has, names_object, numbers_where}
@@ -32,10 +33,6 @@ module _ {A : Type 0} (f : A → List ℕ) where
       go false q = refl
 
 -- ---- terms
-or_false : (b : Bool) → (b || false) ≡ b
-or_false true = refl
-or_false false = refl
-
 named_more : (x : ℕ) (ts : List Term) (k : ℕ) (t d : Term) → k < length ts → t ≡ get_or ts k d → names_object x (take (k + 1) ts) ≡ (names_object x (take k ts) || (t.delta.object == x))
 named_more x ts k t d h p =
     list_any_more (λ (u : Term). u.delta.object == x) ts k d h ∙ ap (λ (u : Term). names_object x (take k ts) || (u.delta.object == x)) (sym p)
@@ -70,9 +67,6 @@ module _ (ts : List Term) (k : ℕ) (t d : Term) (lt : k < length ts) (p : t ≡
         ∙ join_or (has n (at_object x first)) (names_object x (take k ts)) (t.delta.object == x) (n == number)
         ∙ ap (λ v. has n (at_object x first) || (v && (n == number))) (sym (named_more x ts k t d lt p))
 
-pub terms_none : (b e : Bool) → b ≡ (b || (false && e))
-terms_none b e = sym (or_false b)
-
 -- ---- one more item
 -- at each object stand the numbers, from first on, of the items that pass its test
 abbrev pub Keeps : {X : Type 0} → (ℕ → X → Bool) → ℕ → List X → List (List ℕ) → Type 0
@@ -88,6 +82,3 @@ module _ {X : Type 0} (test : ℕ → X → Bool) (first : ℕ) (xs : List X) (x
 -- the items so far, with the next one
 pub next_is : {X : Type 0} (xs : List X) (k : ℕ) (x d : X) → k < length xs → x ≡ get_or xs k d → take k xs ++ x ∷ [] ≡ take (k + 1) xs
 next_is xs k x d lt p = ap (λ y. take k xs ++ y ∷ []) p ∙ sym (take_more xs k d lt)
-
-pub so_many : {X : Type 0} (xs : List X) (k : ℕ) → k < length xs → length (take k xs) ≡ k
-so_many xs k lt = grind (arith, length-take)

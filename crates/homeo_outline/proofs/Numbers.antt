@@ -3,6 +3,8 @@ use Rattle.std.proofs.Common.{◌≡◌, ◌⊎◌, ℕ, zero, suc, ◌==◌, �
 use Rattle.std.specs.Prelude.{◌||◌}
 use Rattle.std.proofs.lemmas.Bool.Decides.{nat_tests}
 use Rattle.std.proofs.lemmas.List.Folds.{list_any-append, list_any_more}
+use Rattle.std.proofs.lemmas.Bool.{or_right}
+use Rattle.homeo_lemmas.proofs.Bools.{or_false}
 use Rattle.homeo_outline.specs.Numbers.{has, numbers_where}
 
 -- ---- one more item
@@ -26,10 +28,6 @@ numbers_more test first (y ∷ xs) x =
 
 has_one : (n m : ℕ) (v : Bool) → has n (cond v (m ∷ []) []) ≡ (v && (n == m))
 has_one n m true = or_false (n == m)
-  where
-    or_false : (b : Bool) → (b || false) ≡ b
-    or_false true = refl
-    or_false false = refl
 has_one n m false = refl
 
 pub has_more :
@@ -75,10 +73,6 @@ pub has_number : {X : Type 0} (test : X → Bool) (m : ℕ) (xs : List X) (d : X
 has_number test m xs d h = let e : m ≡ 0 + m = omega arith in ap (λ n. has n (numbers_where test 0 xs)) e ∙ numbered test 0 m xs d h
 
 -- ---- the first numbers of a list
-pub or_true : (a b : Bool) → b ≡ true → (a || b) ≡ true
-or_true true b e = refl
-or_true false b e = e
-
 -- one more of the first numbers
 pub more_numbers :
     (ns : List ℕ) (i n d : ℕ) → i < length ns → (has n (take (i + 1) ns) ≡ true → (has n (take i ns) ≡ true) ⊎ (n ≡ get_or ns i d)) ×
@@ -99,4 +93,4 @@ more_numbers ns i n d lt = (λ h. back (has n (take i ns)) refl (n == get_or ns 
     left e = ap (λ b. b || (n == get_or ns i d)) e
 
     right : n ≡ get_or ns i d → (has n (take i ns) || (n == get_or ns i d)) ≡ true
-    right e = let same : (n == get_or ns i d) ≡ true = grind (arith, nat_tests) in or_true (has n (take i ns)) (n == get_or ns i d) same
+    right e = let same : (n == get_or ns i d) ≡ true = grind (arith, nat_tests) in or_right (has n (take i ns)) (n == get_or ns i d) same

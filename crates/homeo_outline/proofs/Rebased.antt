@@ -6,10 +6,10 @@ use Rattle.std.specs.Option.{option_eq}
 use Rattle.std.specs.Cmp.Lexicographic.{pointwise, pointwise_decides}
 use Rattle.std.proofs.Math.IntN.{+ℤ_assoc, +ℤ_idr}
 use Rattle.std.proofs.lemmas.List.{at_drop_more, at_drop_all}
+use Rattle.homeo_lemmas.proofs.Integers.{int_is}
 use Rattle.homeo_plan.specs.declared.forms.Delta.{Delta}
 use Rattle.homeo_plan.specs.declared.forms.Term.{Term}
 use Rattle.homeo_plan.specs.Linear.{same_delta}
-use Rattle.homeo_plan.proofs.Atoms.{int_eq_is}
 use Rattle.homeo_plan.proofs.Covering.{same_terms_is}
 use Rattle.homeo_plan.proofs.Factors.{same_delta_is, same_delta_refl}
 use Rattle.homeo_follow.specs.Key.{definitions}
@@ -39,7 +39,7 @@ pub found_sum :
     (r : Option ℤ) (a b n constant more new : ℤ) → SomeIff r (FitsSigned w128 (a +ℤ b)) (a +ℤ b) → option_eq int_eq r (Some n) ≡ true →
     a ≡ constant → b ≡ more → n ≡ new → new ≡ constant +ℤ more
 found_sum None a b n constant more new is same p q s = absurd cc
-found_sum (Some x) a b n constant more new is same p q s = sym s ∙ sym (int_eq_is x n same) ∙ is.1 ∙ ap₂ ◌+ℤ◌ p q
+found_sum (Some x) a b n constant more new is same p q s = sym s ∙ sym (int_is x n same) ∙ is.1 ∙ ap₂ ◌+ℤ◌ p q
 
 pub found_product :
     (r : Option ℤ) (a b factor gain : ℤ) → SomeIff r (FitsSigned w128 (a *ℤ b)) (a *ℤ b) → a ≡ factor → b ≡ gain →
@@ -62,5 +62,3 @@ same_delta_decides d e = (same_delta_is d e, λ p. ap (same_delta d) (sym p) ∙
 
 pub deltas_same : (ds es : List Delta) → pointwise same_delta ds es ≡ true → ds ≡ es
 deltas_same ds es = (pointwise_decides same_delta_decides ds es).0
-
--- ---- two lists that are made into the same

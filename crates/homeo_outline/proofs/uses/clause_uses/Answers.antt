@@ -2,9 +2,10 @@
 use Rattle.std.proofs.Common.{◌≡◌, ◌+◌, ◌∷◌, [], ◌==◌, map, take, length, refl, sym, ap, subst, ◌∙◌, ◌&&◌, arith}
 use Rattle.std.specs.Prelude.{◌||◌}
 use Rattle.std.proofs.lemmas.List.{map-append, length-map}
+use Rattle.homeo_lemmas.proofs.Lists.{length_take}
 use Rattle.homeo_outline.specs.Numbers.{has, names_object}
 use Rattle.homeo_outline.specs.inner.Uses.{at_object, KeepsClauses}
-use Rattle.homeo_outline.proofs.Noting.{item_kept, next_is, so_many}
+use Rattle.homeo_outline.proofs.Noting.{item_kept, next_is}
 use Rattle.homeo_outline.proofs.uses.clause_uses.Goals as goal
 
 pub loop-terms-init : goal.loop-terms-init
@@ -20,7 +21,7 @@ loop-terms-preserved c =
     let number = c.loop-terms.number in
     let so_far = map (λ t. t.items) (take k ls) in
     let next = sym (map-append (λ t. t.items) (take k ls) (l ∷ [])) ∙ ap (map (λ t. t.items)) (next_is ls k l _ c.loop-terms-test.true c.terms-item.is) in
-    let counted : number ≡ 0 + length so_far = omega (arith, c.loop-terms.invariant.number, so_many ls k c.loop-terms-test.true, length-map (take k ls) (λ t. t.items)) in
+    let counted : number ≡ 0 + length so_far = omega (arith, c.loop-terms.invariant.number, length_take ls k c.loop-terms-test.true, length-map (take k ls) (λ t. t.items)) in
     record {
       number = ap (λ m. m + 1) c.loop-terms.invariant.number;
       keeps =

@@ -1,8 +1,9 @@
 -- One more freeze.
 use Rattle.std.proofs.Common.{◌≡◌, ◌==◌, ◌+◌, ℕ, List, map, take, length, get_or, refl, subst, arith}
+use Rattle.homeo_lemmas.proofs.Lists.{length_take}
 use Rattle.homeo_plan.specs.declared.forms.Delta.{Delta}
 use Rattle.homeo_outline.specs.inner.Uses.{KeepsFreezes, at_object}
-use Rattle.homeo_outline.proofs.Noting.{item_kept, object_noted, next_is, so_many}
+use Rattle.homeo_outline.proofs.Noting.{item_kept, object_noted, next_is}
 use Rattle.homeo_outline.proofs.uses.freeze_uses.Goals as goal
 
 -- the freeze that is read
@@ -18,7 +19,7 @@ loop-freeze-preserved c =
     let before = map (λ v. v.items) c.loop-freeze.uses.items in
     let after = map (λ v. v.items) c.note.new.uses.items in
     let number = c.loop-freeze.number in
-    let counted : number ≡ c.args.first + length (take k ds) = omega (arith, c.loop-freeze.invariant.number, so_many ds k c.loop-freeze-test.true) in
+    let counted : number ≡ c.args.first + length (take k ds) = omega (arith, c.loop-freeze.invariant.number, length_take ds k c.loop-freeze-test.true) in
     record {
       number = omega (arith, c.loop-freeze.invariant.number);
       keeps =

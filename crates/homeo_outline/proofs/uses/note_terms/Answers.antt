@@ -1,13 +1,14 @@
 -- One more term.
 use Rattle.std.proofs.Common.{ℕ, ◌==◌, List, map, get_or, pos, refl}
+use Rattle.homeo_lemmas.proofs.Bools.{or_neither}
 use Rattle.homeo_plan.specs.declared.forms.Term.{Term}
 use Rattle.homeo_outline.specs.Numbers.{has}
 use Rattle.homeo_outline.specs.inner.Uses.{at_object}
-use Rattle.homeo_outline.proofs.Noting.{terms_none, term_noted}
+use Rattle.homeo_outline.proofs.Noting.{term_noted}
 use Rattle.homeo_outline.proofs.uses.note_terms.Goals as goal
 
 pub loop-term-init : goal.loop-term-init
-loop-term-init c x n = terms_none (has n (at_object x (map (λ v. v.items) c.args.uses.now.items))) (n == c.args.number)
+loop-term-init c x n = or_neither (has n (at_object x (map (λ v. v.items) c.args.uses.now.items))) (n == c.args.number)
 
 -- the term that is read
 term_at : List Term → ℕ → Term
