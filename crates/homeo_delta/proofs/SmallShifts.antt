@@ -1,6 +1,7 @@
 -- A transformed command computes small numbers where the given one does on the fold, and the parts are small.
-use Rattle.std.proofs.Common.{◌≡◌, ℕ, ◌+◌, ◌*◌, ◌<◌, ◌≤◌, Bool, true, false, cond, ℤ, pos, ◌+ℤ◌, ◌*ℤ◌, neg_ℤ, refl, sym, subst, arith}
+use Rattle.std.proofs.Common.{◌≡◌, ℕ, ◌+◌, ◌*◌, ◌<◌, ◌≤◌, true, ℤ, pos, ◌+ℤ◌, ◌*ℤ◌, neg_ℤ, refl, sym, subst, arith}
 use Rattle.std.specs.Int.RustNames.{unsigned_abs}
+use Rattle.homeo_lemmas.proofs.Bools.{cond_holds, both}
 use Rattle.homeo_syntax.specs.declared.low.SplitName.TheVariants.{Whole, Base, Delta}
 use Rattle.homeo_syntax.specs.Low.{Expr, Exprs, Literal, OfTemp, Read, Sum, Product, Neg, NoExpr, MoreExpr, Test, Cond, True, Not, Comparison, NoTest, MoreTest, Command, Commands, Skip, Assign, Write, Print, Seq, If, NoCommand, MoreCommand}
 use Rattle.homeo_meaning.specs.Key.{definitions as meaning_definitions}
@@ -14,13 +15,8 @@ use Rattle.homeo_plan.proofs.Shift.{value_shift, shift_follows}
 use Rattle.homeo_split.specs.Key.{definitions as split_definitions}
 use Rattle.homeo_split.specs.CanExec.{run_limit, expr_fits, sum_fits, product_fits, test_fits, cond_fits, can_exec, can_exec_all}
 use Rattle.homeo_delta.specs.SmallParts.{HasSmallParts}
-use Rattle.homeo_delta.proofs.SmallSites.{both, fits, read_fits, write_fits}
+use Rattle.homeo_delta.proofs.SmallSites.{fits, read_fits, write_fits}
 use Rattle.homeo_delta.proofs.SmallValues.{value_small, objects_small}
-
--- whichever branch is taken
-either : (t u v : Bool) → u ≡ true → v ≡ true → cond t u v ≡ true
-either true u v e f = e
-either false u v e f = f
 
 module _ (k i a b : ℕ) (site : i < k) (some : 1 ≤ b) where
   parts_stay_small :
@@ -86,7 +82,7 @@ module _ (k i a b : ℕ) (site : i < k) (some : 1 ≤ b) where
       hold_fits : (d : Cond) (s : State) → HasSmallParts k i a b s → IsWholeCond d → CanHold (IsSmall b) (IsSmall b) d (fold_state k s) → cond_fits run_limit (shift_cond k d) s ≡ true
       hold_fits NoTest s h w c = refl
       hold_fits (MoreTest t d) s h w c =
-          both (pass_fits t s h w.0 c.0) (either (passes (shift_test k t) s) _ _ (hold_fits d s h w.1 c.1) refl)
+          both (pass_fits t s h w.0 c.0) (cond_holds (passes (shift_test k t) s) _ _ (hold_fits d s h w.1 c.1) refl)
 
     -- ---- commands
     mutual
@@ -104,7 +100,7 @@ module _ (k i a b : ℕ) (site : i < k) (some : 1 ≤ b) where
       run_fits (Seq cs) s h w r = runs_fit cs s h w r
       run_fits (If t c d) s h w r =
           both (hold_fits t s h w.0 r.0)
-          (either (holds (shift_cond k t) s) _ _ (run_fits c s h w.1 r.1) (run_fits d s h w.2 r.2))
+          (cond_holds (holds (shift_cond k t) s) _ _ (run_fits c s h w.1 r.1) (run_fits d s h w.2 r.2))
 
       runs_fit : (cs : Commands) (s : State) → HasSmallParts k i a b s → AreWhole cs → CanRunAll (IsSmall b) (IsSmall b) cs (fold_state k s) → can_exec_all run_limit (shift_all k i cs) s ≡ true
       runs_fit NoCommand s h w r = refl

@@ -1,9 +1,11 @@
 -- The numbers that a site computes to read and to write an object are small where the parts are.
-use Rattle.std.proofs.Common.{◌≡◌, ◌≢◌, ℕ, zero, suc, ◌+◌, ◌*◌, ◌<◌, ◌≤◌, ◌==◌, Bool, true, false, cond, ◌&&◌, ℤ, pos, ◌+ℤ◌, neg_ℤ, refl, sym, ap₂, subst, arith}
+use Rattle.std.proofs.Common.{◌≡◌, ◌≢◌, ℕ, zero, suc, ◌+◌, ◌*◌, ◌<◌, ◌≤◌, ◌==◌, Bool, true, false, cond, ℤ, pos, ◌+ℤ◌, neg_ℤ, refl, sym, subst, arith}
 use Rattle.std.specs.Int.RustNames.{unsigned_abs}
 use Rattle.std.proofs.lemmas.Int.{ints}
 use Rattle.std.proofs.lemmas.Nat.{mul-le}
 use Rattle.std.proofs.lemmas.Bool.Decides.{nat_tests}
+use Rattle.homeo_lemmas.proofs.Bools.{both}
+use Rattle.homeo_lemmas.proofs.Integers.{abs_neg}
 use Rattle.homeo_syntax.specs.declared.low.SplitName.TheVariants.{Whole, Base, Delta}
 use Rattle.homeo_syntax.specs.Low.{Expr, Exprs, Read, Sum, Neg, MoreExpr}
 use Rattle.homeo_meaning.specs.Key.{definitions as meaning_definitions}
@@ -16,16 +18,9 @@ use Rattle.homeo_split.specs.CanExec.{run_limit, expr_fits, sum_fits}
 use Rattle.homeo_delta.specs.SmallParts.{HasSmallParts}
 use Rattle.homeo_delta.proofs.SmallSums.{abs_add, abs_part, sum_small}
 
-abs_neg : (x : ℤ) → unsigned_abs (neg_ℤ x) ≡ unsigned_abs x
-abs_neg x = grind (arith, ints)
-
 -- a part of a sum is as large as the sum and the other parts
 abs_middle : (x y z : ℤ) → unsigned_abs y ≤ unsigned_abs (x +ℤ (y +ℤ z)) + (unsigned_abs x + unsigned_abs z)
 abs_middle x y z = grind (arith, ints)
-
--- what both tests say
-pub both : {u v : Bool} → u ≡ true → v ≡ true → (u && v) ≡ true
-both e f = ap₂ ◌&&◌ e f
 
 module _ (k i a b : ℕ) (site : i < k) (within : b + k * a ≤ run_limit) where
   pub fits : (v : ℤ) → unsigned_abs v ≤ b + k * a → is_small run_limit v ≡ true
