@@ -42,7 +42,7 @@ pub naturals_all : (shares : List ℤ) (i : ℕ) (own : List ℕ) → length sha
 naturals_all shares i own h e = e ∙ ap (map nat_of) (take_all i shares h)
 
 -- ---- their sum
-nat_small : (z : ℤ) → z ≤ℤ pos 1000 → nat_of z ≤ 1000
+pub nat_small : (z : ℤ) → z ≤ℤ pos 1000 → nat_of z ≤ 1000
 unfolding meaning_definitions
 nat_small (pos n) h = omega (arith, ints, h)
 nat_small (negsuc n) h = omega arith
