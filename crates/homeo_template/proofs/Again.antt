@@ -1,12 +1,11 @@
 -- A set of atoms that comes again brings no more clauses.
 use Rattle.homeo_plan.specs.Key.{definitions}
-use Rattle.std.proofs.Common.{◌≡◌, ℕ, zero, suc, ◌+◌, ◌<◌, ◌==◌, Bool, true, false, cond, ◌&&◌, ◌||◌, List, [], ◌∷◌, ◌++◌, ℤ, map, length, take, get_or, refl, sym, ap, ap₂, subst, ◌∙◌, arith, true≢false}
+use Rattle.std.proofs.Common.{◌≡◌, ℕ, zero, suc, ◌+◌, ◌<◌, ◌==◌, Bool, true, false, cond, ◌&&◌, ◌||◌, List, [], ◌∷◌, ◌++◌, map, length, take, get_or, refl, sym, ap, ap₂, subst, ◌∙◌, arith, true≢false}
 use Rattle.std.specs.Prelude.{slice_index_or, if◌then◌else◌}
 use Rattle.std.specs.List.{list_any}
-use Rattle.std.specs.Ordering.{int_eq}
-use Rattle.std.proofs.lemmas.Bool.Decides.{nat_tests}
-use Rattle.std.proofs.lemmas.Int.{ints}
 use Rattle.std.proofs.lemmas.List.{take_more, map_push}
+use Rattle.homeo_lemmas.proofs.Integers.{int_itself}
+use Rattle.homeo_lemmas.proofs.Naturals.{nat_is}
 use Rattle.homeo_plan.specs.declared.forms.Term.{Term}
 use Rattle.homeo_plan.specs.Each.{Each}
 use Rattle.homeo_plan.specs.Linear.{Linear, is_empty}
@@ -17,12 +16,9 @@ use Rattle.homeo_template.specs.inner.Met.{HaveClauses, AreMet}
 use Rattle.homeo_template.proofs.Appending.{clauses_append, atoms_push}
 
 -- ---- a clause is the same as itself
-int_same : (z : ℤ) → int_eq z z ≡ true
-int_same z = grind (arith, ints)
-
 term_same : (t : Term) → same_term t t ≡ true
 unfolding definitions
-term_same t = ap₂ ◌&&◌ (same_delta_refl t.delta) (int_same t.factor)
+term_same t = ap₂ ◌&&◌ (same_delta_refl t.delta) (int_itself t.factor)
 
 terms_same : (ts : List Term) → same_terms ts ts ≡ true
 unfolding definitions
@@ -31,7 +27,7 @@ terms_same (t ∷ ts) = ap₂ ◌&&◌ (term_same t) (terms_same ts)
 
 clause_same : (c : Clause) → same_clause c c ≡ true
 unfolding definitions
-clause_same c = ap₂ ◌&&◌ (terms_same c.terms) (int_same c.slack)
+clause_same c = ap₂ ◌&&◌ (terms_same c.terms) (int_itself c.slack)
 
 -- ---- what is among clauses stays so
 module _ (p : Clause → Bool) where
@@ -109,12 +105,10 @@ pub one_met :
     after ≡ clauses_from cs (set_at sets place) → AreMet more sets after
 one_met met more sets place cs after marked h put = λ n e. subst (λ l. HaveClauses l (set_at sets n)) (sym put) (go n (place == n) refl (sym (marked n) ∙ e))
   where
-    same_place : (m n : ℕ) → (m == n) ≡ true → m ≡ n
-    same_place m n h = grind (arith, nat_tests, h)
 
     go : (n : ℕ) (b : Bool) → (place == n) ≡ b → (if b then true else slice_index_or met n false) ≡ true → HaveClauses (clauses_from cs (set_at sets place)) (set_at sets n)
     go n true q e =
-        subst (λ m. HaveClauses (clauses_from cs (set_at sets place)) (set_at sets m)) (same_place place n q) (have_own cs (set_at sets place))
+        subst (λ m. HaveClauses (clauses_from cs (set_at sets place)) (set_at sets m)) (nat_is place n q) (have_own cs (set_at sets place))
     go n false q e = have_more cs (set_at sets place) (set_at sets n) (h n e)
 
 -- ---- the set at a place

@@ -3,13 +3,10 @@ use Rattle.homeo_meaning.specs.Key.{definitions as meaning_definitions}
 use Rattle.std.proofs.Common.{◌≡◌, ℤ, ◌-ℤ◌, pos, neg_ℤ, FitsSigned, SFits, to_z, of_z, arith}
 use mir.Syntax.{w128}
 use Rattle.std.proofs.Math.IntN.{+ℤ_idl}
-use Rattle.std.specs.Int.RustNames.{unsigned_abs}
-use Rattle.std.proofs.lemmas.Int.{ints, fits_signed_from_abs, to_z-of_z}
+use Rattle.std.proofs.lemmas.Int.{fits_signed_from_abs, to_z-of_z}
+use Rattle.homeo_lemmas.proofs.Integers.{abs_neg}
 use Rattle.homeo_meaning.specs.Small.{IsSmall}
 use Rattle.homeo_plan.specs.Limit.{form_limit}
-
-pub abs_neg : (a : ℤ) → unsigned_abs (neg_ℤ a) ≡ unsigned_abs a
-abs_neg a = grind (arith, ints)
 
 negation_fits : (a : ℤ) → IsSmall form_limit a → FitsSigned w128 (neg_ℤ a)
 unfolding meaning_definitions

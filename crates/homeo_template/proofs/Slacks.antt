@@ -4,6 +4,7 @@ use Rattle.homeo_plan.specs.Key.{definitions}
 use Rattle.std.proofs.Common.{◌≡◌, List, [], ◌∷◌, map, subst, sym, arith}
 use Rattle.std.specs.List.{All}
 use Rattle.std.proofs.lemmas.List.Elements.{All-head, All-tail}
+use Rattle.homeo_lemmas.proofs.Integers.{abs_neg}
 use Rattle.homeo_meaning.specs.Small.{IsSmall}
 use Rattle.homeo_plan.specs.declared.forms.AtomSet.{AtomSet}
 use Rattle.homeo_plan.specs.Config.{HaveSlack}
@@ -15,7 +16,6 @@ use Rattle.homeo_plan.specs.Template.{Clause, clause_of, clauses_from, atoms_of_
 use Rattle.homeo_plan.specs.Tracking.{IsBelowAtBase}
 use Rattle.homeo_plan.proofs.AtomClauses.{each_from, each_of_sets}
 use Rattle.homeo_plan.proofs.Policy.{slacks_from}
-use Rattle.homeo_template.proofs.Negation.{abs_neg}
 
 abbrev HasSmallConstant : Linear → Type 0
 HasSmallConstant a = IsSmall form_limit a.constant
