@@ -4,6 +4,8 @@ use Rattle.std.specs.Prelude.{slice_get}
 use Rattle.std.specs.List.{list_any}
 use Rattle.std.proofs.lemmas.List.{map_push, take_all, take_more}
 use Rattle.std.proofs.lemmas.List.Elements.{All-head, All-tail}
+use Rattle.std.proofs.lemmas.Option.{slice_get_within}
+use Rattle.std.proofs.lemmas.List.Folds.{list_any-append}
 use Rattle.homeo_syntax.specs.Low.{Command}
 use Rattle.homeo_syntax.specs.Source as s
 use Rattle.homeo_meaning.specs.Key.{definitions as meaning_definitions}
@@ -47,9 +49,7 @@ use Rattle.homeo_build.specs.inner.Frozen.{is_frozen_in, names_object, frozen_fr
 use Rattle.homeo_build.specs.inner.Planning.{CanCompile, CanPlan}
 use Rattle.homeo_build.proofs.FewSites.{sites_few}
 use Rattle.homeo_build.proofs.Following.{atoms_are}
-use Rattle.homeo_build.proofs.FormsMade.{placed_below}
 use Rattle.homeo_build.proofs.FrozenSites.{has_frozen, frozen_in_order}
-use Rattle.homeo_build.proofs.FrozenSteps.{any_append}
 use Rattle.homeo_build.proofs.GroundCalls.{can_compile}
 use Rattle.homeo_build.proofs.Grown.{map_map, same_length}
 use Rattle.homeo_build.proofs.Planning.{can_plan}
@@ -75,7 +75,7 @@ module _ (w : s.Workload) (fs : List Command) where
   places_below m [] [] l e = tt
   places_below m [] (n ∷ ns) l e = absurd e
   places_below m (g ∷ gs) [] l e = absurd e
-  places_below m (g ∷ gs) (n ∷ ns) l e = (omega (arith, l, placed_below fs n (ground_form w g) e.0), places_below m gs ns l e.1)
+  places_below m (g ∷ gs) (n ∷ ns) l e = (omega (arith, l, slice_get_within fs n (ground_form w g) e.0), places_below m gs ns l e.1)
 
 abbrev asks : (ℕ → ℤ) → Command → List Linear
 asks b f = (followed b f).atoms
@@ -235,8 +235,8 @@ module _ (b : ℕ → ℤ) (x j : ℕ) where
       ((is_frozen b gs x j || list_any (λ a. has_object x a.mixed) (followed b g.command).atoms) || (not (j == g.site) && has_object x (needed b (followed b g.command))))
   unfolding follow_definitions
   frozen_push gs g =
-      ap₂ ◌||◌ (ap (list_any mixes) (atoms_push_one gs g) ∙ any_append mixes (followed_atoms b gs) (followed b g.command).atoms)
-      (any_append needs gs (g ∷ []))
+      ap₂ ◌||◌ (ap (list_any mixes) (atoms_push_one gs g) ∙ list_any-append mixes (followed_atoms b gs) (followed b g.command).atoms)
+      (list_any-append needs gs (g ∷ []))
       ∙ regroup (list_any mixes (followed_atoms b gs)) (list_any mixes (followed b g.command).atoms) (list_any needs gs) (needs g)
     where
       regroup : (m n p q : Bool) → ((m || n) || (p || (q || false))) ≡ (((m || p) || n) || q)

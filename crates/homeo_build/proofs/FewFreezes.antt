@@ -30,7 +30,7 @@ use Rattle.homeo_outline.specs.ObjectPlan.{template_with}
 use Rattle.homeo_outline.specs.declared.plan.ObjectPlan.{ObjectPlan}
 use Rattle.homeo_outline.proofs.Slacks.{clause_count}
 use Rattle.homeo_plan.proofs.DeltaLists.{After, in_order_puts, each_put_all}
-use Rattle.homeo_follow.proofs.Terms.{each_append}
+use Rattle.homeo_plan.proofs.Atoms.{append_each}
 use Rattle.homeo_build.specs.Plan.{IsPlanOf, IsObjectPlan}
 use Rattle.homeo_build.proofs.FewClauses.{IsSited, planned_sited, clauses_few}
 use Rattle.homeo_build.proofs.FewSites.{sites_few}
@@ -84,7 +84,7 @@ module _ (n names k : ℕ) (b : ℕ → ℤ) where
   unfolding plan_definitions
   all_mixed [] h = tt
   all_mixed (g ∷ gs) h =
-      each_append (λ (a : Linear). Each (IsPlaced n k) a.mixed) (atoms_of k b g) (atoms_of_sets (map (atoms_of k b) gs))
+      append_each (λ (a : Linear). Each (IsPlaced n k) a.mixed) (atoms_of k b g) (atoms_of_sets (map (atoms_of k b) gs))
       (mixed_placed n names k b g h.0.0.0 h.0.0.1 h.0.1) (all_mixed gs h.1)
 
   all_needs : (gs : List PlannedCall) → Each (IsReady n names k) gs → Each (Each (IsPlaced n k)) (map (needs_of k b) gs)

@@ -7,6 +7,7 @@ use Rattle.std.proofs.lemmas.Bool.{and_parts}
 use Rattle.std.proofs.lemmas.Int.{ints}
 use Rattle.std.proofs.lemmas.List.{take_all, length-map}
 use Rattle.std.specs.declared.sync.Arc.{Arc}
+use Rattle.homeo_lemmas.proofs.Places.{get_map, one_placed}
 use Rattle.homeo_syntax.specs.Low.{Command}
 use Rattle.homeo_syntax.specs.LowView.{plain_lcommand}
 use Rattle.homeo_syntax.specs.declared.low.LCommand.{LCommand}
@@ -45,7 +46,7 @@ use Rattle.homeo_build.specs.Forms.{IsCallForm, AreForms}
 use Rattle.homeo_build.specs.Plan.{AreParts}
 use Rattle.homeo_build.specs.inner.Followed.{IsSmallAlong}
 use Rattle.homeo_build.specs.inner.Rebased.{IsRebased, AreRebased}
-use Rattle.homeo_build.proofs.FormsMade.{placed_map, one_placed}
+use Rattle.homeo_build.proofs.FormsMade.{placed_map}
 use Rattle.homeo_build.proofs.Grown.{same_length, same_place, map_map}
 
 -- ---- numbers along forms
@@ -76,16 +77,11 @@ module _ (w : s.Workload) (base : List ℤ) (accepted : IsAccepted w) (within : 
   small_base x = omega (arith, values_small w accepted (values_of base) (all_within (schema_of w) base within) x)
 
 -- ---- what the form at a place brings
-placed_of : {X Y : Type 0} (f : X → Y) (xs : List X) (n : ℕ) (x : X) → slice_get xs n ≡ Some x → slice_get (map f xs) n ≡ Some (f x)
-placed_of f [] n x h = cc
-placed_of f (z ∷ xs) zero x h = let same : z ≡ x = cc in ap (λ y. Some (f y)) same
-placed_of f (z ∷ xs) (suc n) x h = placed_of f xs n x h
-
 same_placed :
     {X Y Z : Type 0} (f : X → Z) (g : Y → Z) (xs : List X) (ys : List Y) (n : ℕ) (x : X) (y : Y) → map f xs ≡ map g ys → n < length xs →
     x ≡ get_or xs n x → slice_get ys n ≡ Some y → f x ≡ g y
 same_placed f g xs ys n x y same l p h =
-    one_placed (map f xs) n (f x) (g y) (placed_map f xs n x l p) (ap (λ zs. slice_get zs n) same ∙ placed_of g ys n y h)
+    one_placed (map f xs) n (f x) (g y) (placed_map f xs n x l p) (ap (λ zs. slice_get zs n) same ∙ get_map g ys n y h)
 
 -- so where the place stands at a number, in a list that is lent
 module _

@@ -1,12 +1,15 @@
 -- The L forms of ground calls, made once for each transaction with arguments.
-use Rattle.std.proofs.Common.{◌≡◌, ℕ, zero, suc, ◌+◌, ◌<◌, ◌≤◌, ℤ, Bool, true, false, ◌&&◌, ◌==◌, List, [], ◌∷◌, ◌++◌, map, take, Some, length, get_or, refl, sym, ap, ap₂, subst, ◌∙◌, arith}
+use Rattle.std.proofs.Common.{◌≡◌, ℕ, zero, suc, ◌+◌, ◌<◌, ◌≤◌, Bool, true, false, ◌&&◌, ◌==◌, List, [], ◌∷◌, ◌++◌, map, take, Some, length, get_or, refl, sym, ap, ap₂, subst, ◌∙◌, arith}
 use Rattle.std.specs.Prelude.{slice_get, slice_index_or, not, ◌||◌, if◌then◌else◌}
 use Rattle.std.specs.Ordering.{int_eq}
 use Rattle.std.specs.List.{list_any}
 use Rattle.std.specs.Cmp.Lexicographic.{pointwise}
-use Rattle.std.proofs.lemmas.Int.{ints}
-use Rattle.std.proofs.lemmas.Bool.Decides.{nat_tests}
 use Rattle.std.proofs.lemmas.List.{map_push, take_more, take_all, length-map}
+use Rattle.std.proofs.lemmas.Option.{slice_get_within}
+use Rattle.homeo_lemmas.proofs.Bools.{and_first, and_second}
+use Rattle.homeo_lemmas.proofs.Lists.{numbers_same}
+use Rattle.homeo_lemmas.proofs.Naturals.{nat_is}
+use Rattle.homeo_lemmas.proofs.Places.{get_left}
 use Rattle.homeo_syntax.specs.Low.{Command}
 use Rattle.homeo_syntax.specs.LowView.{plain_lcommand}
 use Rattle.homeo_syntax.specs.Source as s
@@ -25,16 +28,6 @@ use Rattle.homeo_build.specs.inner.Bodies.{call_body, ground_to, IsFormTo, HaveB
 use Rattle.homeo_build.specs.declared.forms.Body.{Body}
 
 -- ---- what stands at a place
-placed_more : {X : Type 0} (xs ys : List X) (n : ℕ) (x : X) → slice_get xs n ≡ Some x → slice_get (xs ++ ys) n ≡ Some x
-placed_more [] ys n x h = cc
-placed_more (z ∷ xs) ys zero x h = h
-placed_more (z ∷ xs) ys (suc n) x h = placed_more xs ys n x h
-
-pub placed_below : {X : Type 0} (xs : List X) (n : ℕ) (x : X) → slice_get xs n ≡ Some x → n < length xs
-placed_below [] n x h = cc
-placed_below (z ∷ xs) zero x h = omega arith
-placed_below (z ∷ xs) (suc n) x h = omega (arith, placed_below xs n x h)
-
 pub placed_map : {X Y : Type 0} (f : X → Y) (xs : List X) (n : ℕ) (x : X) → n < length xs → x ≡ get_or xs n x → slice_get (map f xs) n ≡ Some (f x)
 placed_map f [] n x l p = absurd (omega (arith, l))
 placed_map f (z ∷ xs) zero x l p = ap (λ y. Some (f y)) (sym p)
@@ -55,38 +48,12 @@ module _
         placed_map plain_lcommand forms (slice_index_or places n 0) x below
         (is ∙ ap₂ (λ (l : List LCommand) (ns : List ℕ). get_or l (slice_index_or ns n 0) x) lent placed)
 
-pub one_placed : {X : Type 0} (xs : List X) (n : ℕ) (x y : X) → slice_get xs n ≡ Some x → slice_get xs n ≡ Some y → x ≡ y
-one_placed xs n x y p q = cc
-
 pub stay_pushed : (old new : List LCommand) (f : LCommand) → new ≡ old ++ f ∷ [] → StayPlaced (map plain_lcommand old) (map plain_lcommand new)
 stay_pushed old new f p =
     λ n g h. subst (λ l. slice_get l n ≡ Some g) (sym (ap (map plain_lcommand) p ∙ map_push plain_lcommand old f))
-    (placed_more (map plain_lcommand old) (plain_lcommand f ∷ []) n g h)
+    (get_left (map plain_lcommand old) (plain_lcommand f ∷ []) n g h)
 
 -- ---- bodies that the code finds equal
-and_first : (a b : Bool) → (a && b) ≡ true → a ≡ true
-and_first true b h = refl
-and_first false b h = h
-
-and_second : (a b : Bool) → (a && b) ≡ true → b ≡ true
-and_second true b h = h
-and_second false b h = cc
-
-int_same : (x y : ℤ) → int_eq x y ≡ true → x ≡ y
-int_same x y h = grind (arith, ints, h)
-
-nat_same : (m n : ℕ) → (m == n) ≡ true → m ≡ n
-nat_same m n h = grind (arith, nat_tests, h)
-
-numbers_same : (xs ys : List ℤ) → pointwise int_eq xs ys ≡ true → xs ≡ ys
-numbers_same [] [] h = refl
-numbers_same [] (y ∷ ys) h = cc
-numbers_same (x ∷ xs) [] h = cc
-numbers_same (x ∷ xs) (y ∷ ys) h =
-    let head : x ≡ y = int_same x y (and_first (int_eq x y) (pointwise int_eq xs ys) h) in
-    let tail : xs ≡ ys = numbers_same xs ys (and_second (int_eq x y) (pointwise int_eq xs ys) h) in
-    λ i. head i ∷ tail i
-
 -- the test of two bodies in the code
 abbrev pub same_body : Body → Body → Bool
 same_body a b = (a.transaction == b.transaction) && pointwise int_eq a.args.items b.args.items
@@ -144,7 +111,7 @@ module _ (w : s.Workload) (g : Ground) (b : Body) (transaction : b.transaction �
 
   pub found_form : (found : List Body) (fs : List Command) (j : ℕ) (k : Body) → HaveBodies w found fs → slice_get found j ≡ Some k → same_body b k ≡ true → slice_get fs j ≡ Some (ground_form w g)
   found_form found fs j k h at same =
-      let names : b.transaction ≡ k.transaction = nat_same b.transaction k.transaction (and_first (b.transaction == k.transaction) (pointwise int_eq b.args.items k.args.items) same) in
+      let names : b.transaction ≡ k.transaction = nat_is b.transaction k.transaction (and_first (b.transaction == k.transaction) (pointwise int_eq b.args.items k.args.items) same) in
       let values : b.args.items ≡ k.args.items = numbers_same b.args.items k.args.items (and_second (b.transaction == k.transaction) (pointwise int_eq b.args.items k.args.items) same) in
       form_at w found fs j k h at ∙ ap Some (sym (body_alike w b k names values) ∙ alike)
 
@@ -270,7 +237,7 @@ form_of_ground w fs ns i g forms within =
     let at = have_at w fs (grounds w) ns i g forms.placed within in
     record {
       within = omega (arith, have_count w fs (grounds w) ns forms.placed, within);
-      below = placed_below fs (slice_index_or ns i 0) (ground_form w (get_or (grounds w) i g)) at;
+      below = slice_get_within fs (slice_index_or ns i 0) (ground_form w (get_or (grounds w) i g)) at;
       at = at;
     }
 
@@ -285,7 +252,7 @@ form_here w fs ns calls i call forms are within is =
     have_at w fs (map plain_ground calls) ns i (plain_ground call) h here ∙ ap (λ x. Some (ground_form w x)) ground in
     record {
       within = omega (arith, have_count w fs (map plain_ground calls) ns h, here);
-      below = placed_below fs (slice_index_or ns i 0) (ground_form w (plain_ground call)) at;
+      below = slice_get_within fs (slice_index_or ns i 0) (ground_form w (plain_ground call)) at;
       at = at;
     }
   where

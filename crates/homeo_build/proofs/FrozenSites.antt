@@ -4,12 +4,14 @@ use Rattle.std.proofs.Common.{◌≡◌, ℕ, zero, suc, ◌+◌, ◌-◌, ◌<�
 use Rattle.std.specs.Prelude.{slice_index_or, if◌then◌else◌}
 use Rattle.std.proofs.Math.Seq.{drop-cons}
 use Rattle.std.proofs.lemmas.Bool.Decides.{nat_tests}
+use Rattle.homeo_lemmas.proofs.Bools.{or_false}
+use Rattle.homeo_lemmas.proofs.Naturals.{nat_is}
 use Rattle.homeo_plan.specs.Each.{Each}
 use Rattle.homeo_plan.specs.Linear.{AreInOrder, delta_before}
 use Rattle.homeo_plan.specs.declared.forms.Delta.{Delta}
 use Rattle.homeo_plan.proofs.DeltaLists.{has}
+use Rattle.homeo_plan.proofs.Atoms.{append_each}
 use Rattle.homeo_follow.proofs.Deltas.{has_append}
-use Rattle.homeo_follow.proofs.Terms.{each_append}
 use Rattle.homeo_build.specs.declared.frozen.Frozen.{Frozen}
 use Rattle.homeo_build.specs.declared.frozen.Frozen.TheVariants.{Nowhere}
 use Rattle.homeo_build.specs.inner.Frozen.{frozen_at, frozen_sites, frozen_from}
@@ -86,9 +88,6 @@ among_is j (suc n) i = ap (λ b. (i == j) || b) (among_is (suc j) n i) ∙ here
     here : ((i == j) || (not (nat_lt i (suc j)) && nat_lt i (suc j + n))) ≡ (not (nat_lt i j) && nat_lt i (j + suc n))
     here = grind (arith, nat_tests)
 
-same_site : (i j : ℕ) → (i == j) ≡ true → i ≡ j
-same_site i j h = grind (arith, nat_tests, h)
-
 has_sites : (d : Delta) (j n x : ℕ) (f : Frozen) → has d (frozen_sites j n x f) ≡ ((d.object == x) && (is_among j n d.site && frozen_at f d.site))
 unfolding plan_definitions
 has_sites d j zero x f = none (d.object == x)
@@ -99,7 +98,7 @@ has_sites d j zero x f = none (d.object == x)
 has_sites d j (suc n) x f = go (frozen_at f j) refl (has_sites d (suc j) n x f) ∙ join (d.object == x) (d.site == j) (is_among (suc j) n d.site) (frozen_at f d.site) (frozen_at f j) here
   where
     here : (d.site == j) ≡ true → frozen_at f d.site ≡ frozen_at f j
-    here h = ap (frozen_at f) (same_site d.site j h)
+    here h = ap (frozen_at f) (nat_is d.site j h)
 
     go :
         (v : Bool) → frozen_at f j ≡ v → has d (frozen_sites (suc j) n x f) ≡ ((d.object == x) && (is_among (suc j) n d.site && frozen_at f d.site)) →
@@ -140,17 +139,13 @@ module _ (k : ℕ) where
   has_from d x zero (f ∷ fs) e =
       has_append d (frozen_sites 0 k x f) (frozen_from k (suc x) fs)
       ∙ ap₂ ◌||◌ (has_sites d 0 k x f ∙ ap₂ (λ b c. b && (c && frozen_at f d.site)) here (among_is 0 k d.site ∙ below)) (none_below d (suc x) fs (omega (arith, e)))
-      ∙ or_none (nat_lt d.site k && frozen_at f d.site)
+      ∙ or_false (nat_lt d.site k && frozen_at f d.site)
     where
       here : (d.object == x) ≡ true
       here = grind (arith, nat_tests, e)
 
       below : (not (nat_lt d.site 0) && nat_lt d.site (0 + k)) ≡ nat_lt d.site k
       below = grind (arith, nat_tests)
-
-      or_none : (b : Bool) → (b || false) ≡ b
-      or_none true = refl
-      or_none false = refl
   has_from d x (suc m) (f ∷ fs) e =
       has_append d (frozen_sites 0 k x f) (frozen_from k (suc x) fs)
       ∙ ap₂ ◌||◌ (has_sites d 0 k x f ∙ ap (λ b. b && (is_among 0 k d.site && frozen_at f d.site)) other) (has_from d (suc x) m fs (omega (arith, e)))
@@ -181,7 +176,7 @@ over_from : (k x y : ℕ) (fs : List Frozen) → x < y → IsOver x (frozen_from
 unfolding plan_definitions
 over_from k x y [] h = tt
 over_from k x y (f ∷ fs) h =
-    each_append (λ e. x < e.object) (frozen_sites 0 k y f) (frozen_from k (suc y) fs) (over_sites x y 0 k f h) (over_from k x (suc y) fs (omega (arith, h)))
+    append_each (λ e. x < e.object) (frozen_sites 0 k y f) (frozen_from k (suc y) fs) (over_sites x y 0 k f h) (over_from k x (suc y) fs (omega (arith, h)))
 
 after_over : (x i : ℕ) (ds : List Delta) → IsOver x ds → After (at_site x i) ds
 unfolding plan_definitions

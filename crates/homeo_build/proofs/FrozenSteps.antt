@@ -1,9 +1,11 @@
 -- What is frozen, as one delta more is, and one atom more, and one object more is reached.
-use Rattle.std.proofs.Common.{◌≡◌, ℕ, zero, suc, ◌+◌, ◌<◌, ◌≤◌, ◌==◌, Bool, true, false, not, ◌||◌, ◌&&◌, List, [], ◌∷◌, ◌++◌, map, take, get_or, set, length, replicate, refl, sym, ap, ap₂, ◌∙◌, arith}
+use Rattle.std.proofs.Common.{◌≡◌, ℕ, zero, suc, ◌+◌, ◌<◌, ◌≤◌, ◌==◌, Bool, true, false, not, ◌||◌, ◌&&◌, List, [], ◌∷◌, ◌++◌, map, take, get_or, set, length, replicate, refl, sym, ap, ap₂, ◌∙◌}
 use Rattle.std.specs.Prelude.{if◌then◌else◌}
 use Rattle.std.specs.List.{list_any}
-use Rattle.std.proofs.lemmas.Bool.Decides.{nat_tests}
 use Rattle.std.proofs.lemmas.List.{map_push, take_all, take_more}
+use Rattle.std.proofs.lemmas.List.Folds.{list_any-append}
+use Rattle.homeo_lemmas.proofs.Bools.{or_false, or_unassoc}
+use Rattle.homeo_lemmas.proofs.Naturals.{nat_is, nat_turned}
 use Rattle.homeo_meaning.proofs.AbsentItems.{padded_set}
 use Rattle.homeo_plan.specs.Linear.{Linear}
 use Rattle.homeo_plan.specs.PlanView.{plain_atom}
@@ -14,33 +16,7 @@ use Rattle.homeo_build.specs.declared.frozen.Frozen.TheVariants.{Nowhere, Everyw
 use Rattle.homeo_build.specs.declared.frozen.FrozenObjects.{FrozenObjects}
 use Rattle.homeo_build.specs.inner.Frozen.{frozen_at, object_frozen, is_frozen_in, names_object}
 
--- ---- tests
-pub any_append : {X : Type 0} (p : X → Bool) (xs ys : List X) → list_any p (xs ++ ys) ≡ (list_any p xs || list_any p ys)
-any_append p [] ys = refl
-any_append p (x ∷ xs) ys = ap (λ b. p x || b) (any_append p xs ys) ∙ assoc (p x) (list_any p xs) (list_any p ys)
-  where
-    assoc : (a b c : Bool) → (a || (b || c)) ≡ ((a || b) || c)
-    assoc true b c = refl
-    assoc false b c = refl
-
-or_none : (b : Bool) → (b || false) ≡ b
-or_none true = refl
-or_none false = refl
-
-or_assoc : (a b c : Bool) → ((a || b) || c) ≡ (a || (b || c))
-or_assoc true b c = refl
-or_assoc false b c = refl
-
-turned : (m n : ℕ) → (m == n) ≡ (n == m)
-turned m n = grind (arith, nat_tests)
-
-same_number : (m n : ℕ) → (m == n) ≡ true → m ≡ n
-same_number m n h = grind (arith, nat_tests, h)
-
 -- ---- nothing yet
-pub nothing_named : (b : Bool) → b ≡ (b || false)
-nothing_named b = sym (or_none b)
-
 pub nothing_needed : (b c : Bool) → b ≡ (b || (c && false))
 nothing_needed true c = refl
 nothing_needed false true = refl
@@ -50,8 +26,8 @@ nothing_needed false false = refl
 names_more : (x : ℕ) (ds : List Delta) (i : ℕ) (d : Delta) → i < length ds → names_object x (take (i + 1) ds) ≡ (names_object x (take i ds) || (x == (get_or ds i d).object))
 names_more x ds i d h =
     ap (names_object x) (take_more ds i d h)
-    ∙ any_append (λ (e : Delta). x == e.object) (take i ds) (get_or ds i d ∷ [])
-    ∙ ap (λ b. names_object x (take i ds) || b) (or_none (x == (get_or ds i d).object))
+    ∙ list_any-append (λ (e : Delta). x == e.object) (take i ds) (get_or ds i d ∷ [])
+    ∙ ap (λ b. names_object x (take i ds) || b) (or_false (x == (get_or ds i d).object))
 
 module _
     (start : ℕ → ℕ → Bool) (before after : FrozenObjects) (ds : List Delta) (i : ℕ) (d : Delta) (within : i < length ds) (f : Frozen)
@@ -65,8 +41,8 @@ module _
         (x j : ℕ) → is_frozen_in after x j ≡ (start x j || names_object x (take (i + 1) ds))
     everywhere_next is so_far x j =
         ap (λ s. frozen_at s j) (put x) ∙ go (o == x)
-        ∙ ap (λ b. b || (o == x)) (so_far x j) ∙ or_assoc (start x j) (names_object x (take i ds)) (o == x)
-        ∙ ap (λ b. start x j || (names_object x (take i ds) || b)) (turned o x)
+        ∙ ap (λ b. b || (o == x)) (so_far x j) ∙ or_unassoc (start x j) (names_object x (take i ds)) (o == x)
+        ∙ ap (λ b. start x j || (names_object x (take i ds) || b)) (nat_turned o x)
         ∙ ap (λ b. start x j || b) (sym (names_more x ds i d within))
       where
         or_all : (b : Bool) → true ≡ (b || true)
@@ -75,7 +51,7 @@ module _
 
         go : (e : Bool) → frozen_at (if e then f else object_frozen before x) j ≡ (is_frozen_in before x j || e)
         go true = ap (λ s. frozen_at s j) is ∙ or_all (is_frozen_in before x j)
-        go false = sym (or_none (is_frozen_in before x j))
+        go false = sym (or_false (is_frozen_in before x j))
 
     pub elsewhere_next :
         (so_far : Frozen) (site : ℕ) → so_far ≡ object_frozen before (get_or ds i d).object →
@@ -86,12 +62,12 @@ module _
         ap (λ s. frozen_at s j) (put x) ∙ go (o == x) refl
         ∙ ap (λ b. b || ((o == x) && not (j == site))) (frozen x j)
         ∙ regroup (start x j) (not (j == site)) (names_object x (take i ds)) (o == x)
-        ∙ ap (λ b. start x j || (not (j == site) && (names_object x (take i ds) || b))) (turned o x)
+        ∙ ap (λ b. start x j || (not (j == site) && (names_object x (take i ds) || b))) (nat_turned o x)
         ∙ ap (λ b. start x j || (not (j == site) && b)) (sym (names_more x ds i d within))
       where
         go : (e : Bool) → (o == x) ≡ e → frozen_at (if e then f else object_frozen before x) j ≡ (is_frozen_in before x j || (e && not (j == site)))
-        go true e = moved j ∙ ap (λ s. frozen_at s j || not (j == site)) (is ∙ ap (object_frozen before) (same_number o x e))
-        go false e = sym (or_none (is_frozen_in before x j))
+        go true e = moved j ∙ ap (λ s. frozen_at s j || not (j == site)) (is ∙ ap (object_frozen before) (nat_is o x e))
+        go false e = sym (or_false (is_frozen_in before x j))
 
         regroup : (a n b e : Bool) → ((a || (n && b)) || (e && n)) ≡ (a || (n && (b || e)))
         regroup true n b e = refl
@@ -113,10 +89,10 @@ pub mixed_next :
     (x j : ℕ) → is_frozen_in after x j ≡ (start x j || mixes x (map plain_atom (take (i + 1) atoms)))
 mixed_next start before after atoms i a lent within is l so_far put x j =
     put x j ∙ ap₂ (λ b ds. b || names_object x ds) (so_far x j) l
-    ∙ or_assoc (start x j) (mixes x (map plain_atom (take i atoms))) (names_object x a.form.mixed.items)
+    ∙ or_unassoc (start x j) (mixes x (map plain_atom (take i atoms))) (names_object x a.form.mixed.items)
     ∙ ap (λ b. start x j || b)
-    (ap (λ b. mixes x (map plain_atom (take i atoms)) || b) (sym (or_none (names_object x a.form.mixed.items)))
-    ∙ sym (any_append (λ (b : Linear). names_object x b.mixed) (map plain_atom (take i atoms)) (plain_atom a ∷ []))
+    (ap (λ b. mixes x (map plain_atom (take i atoms)) || b) (sym (or_false (names_object x a.form.mixed.items)))
+    ∙ sym (list_any-append (λ (b : Linear). names_object x b.mixed) (map plain_atom (take i atoms)) (plain_atom a ∷ []))
     ∙ ap (mixes x) (sym (map_push plain_atom (take i atoms) a) ∙ ap (map plain_atom) (ap (λ y. take i atoms ++ y ∷ []) is ∙ sym (take_more atoms i a within))))
 
 -- ---- objects that are reached

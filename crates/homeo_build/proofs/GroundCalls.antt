@@ -2,6 +2,8 @@
 use Rattle.std.proofs.Common.{◌≡◌, ℕ, ◌<◌, List, [], ◌∷◌, map, length, get_or, All, Some, sym, ap, ◌∙◌, subst, arith}
 use Rattle.std.specs.Prelude.{slice_get}
 use Rattle.std.proofs.lemmas.List.{get_or-map, length-map}
+use Rattle.std.proofs.lemmas.List.Elements.{All-nil, All-cons}
+use Rattle.homeo_lemmas.proofs.Places.{one_placed}
 use Rattle.homeo_syntax.specs.Low.{Command}
 use Rattle.homeo_syntax.specs.Source as s
 use Rattle.homeo_meaning.specs.Key.{definitions as meaning_definitions}
@@ -11,14 +13,13 @@ use Rattle.homeo_meaning.specs.Ground.{Ground, plain_ground, ground_of_sited, gr
 use Rattle.homeo_meaning.specs.NumberRules.{ground_calls}
 use Rattle.homeo_meaning.specs.declared.call.GroundCall.{GroundCall}
 use Rattle.homeo_meaning.proofs.GroundCalls.{Every}
-use Rattle.homeo_meaning.proofs.SoundRules.{all_none, all_more}
 use Rattle.homeo_ground.proofs.Called.{are_called}
 use Rattle.homeo_plan.specs.Key.{definitions as plan_definitions}
 use Rattle.homeo_plan.specs.Planned.{sites_of, planned_call, planned, transformed}
 use Rattle.homeo_plan.specs.Template.{PlannedCall, shifted}
 use Rattle.homeo_plan.proofs.PlannedCalls.{StandsBelow, ground_sites_below}
 use Rattle.homeo_build.specs.inner.Planning.{CanCompile}
-use Rattle.homeo_build.proofs.FormsMade.{one_placed, placed_map}
+use Rattle.homeo_build.proofs.FormsMade.{placed_map}
 use Rattle.homeo_build.proofs.Grown.{map_map}
 
 -- what is made of a ground call, as it is planned
@@ -51,9 +52,9 @@ command_is w calls n call c are within is at =
 -- ---- each can be compiled
 all_below : (w : s.Workload) (us : List SitedCall) → Every (StandsBelow (sites_of w)) us → All (λ (g : Ground). g.site < sites_of w) (map (ground_of_sited w) us)
 unfolding meaning_definitions
-all_below w [] h = all_none (λ (g : Ground). g.site < sites_of w)
+all_below w [] h = All-nil (λ (g : Ground). g.site < sites_of w)
 all_below w (u ∷ us) h =
-    all_more (λ (g : Ground). g.site < sites_of w) (ground_of_sited w u) (map (ground_of_sited w) us) h.0 (all_below w us h.1)
+    All-cons (λ (g : Ground). g.site < sites_of w) (ground_of_sited w u) (map (ground_of_sited w) us) h.0 (all_below w us h.1)
 
 pub can_compile : (w : s.Workload) → IsAccepted w → All (CanCompile w) (grounds w)
 unfolding meaning_definitions

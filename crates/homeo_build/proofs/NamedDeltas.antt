@@ -21,9 +21,10 @@ use Rattle.homeo_plan.specs.Template.{PlannedCall, atoms_of, needs_of}
 use Rattle.homeo_follow.specs.Expanded.{deltas_from, expanded_deltas, expanded}
 use Rattle.homeo_follow.specs.Follow.{passes_by, holds_by, passed_test, failed_test, passed, failed, Followed, asked, object_of, follow, follow_all, object_form, object_forms, followed, gain, print_needs, write_needs, needed}
 use Rattle.homeo_plan.proofs.DeltaLists.{each_puts}
+use Rattle.homeo_plan.proofs.Atoms.{append_each}
 use Rattle.homeo_follow.proofs.Needed.{needs_are_followed}
 use Rattle.homeo_follow.proofs.PlannedAtoms.{atoms_are_followed}
-use Rattle.homeo_follow.proofs.Terms.{OfEach, each_adds, each_scale, each_append}
+use Rattle.homeo_follow.proofs.Terms.{OfEach, each_adds, each_scale}
 
 -- a delta of one of n objects at one of k sites
 pub record IsPlaced (n k : ℕ) (d : Delta) : Type 0 where
@@ -167,7 +168,7 @@ module _ (n names : ℕ) where
       named_passed : (c : Cond) → CondWithin n names c → Each Named (passed f c)
       named_passed NoTest s = tt
       named_passed (MoreTest t c) s =
-          each_append Named (passed_test f t) (passed f c) (named_passed_test t s.0) (named_passed c s.1)
+          append_each Named (passed_test f t) (passed f c) (named_passed_test t s.0) (named_passed c s.1)
 
       named_failed : (c : Cond) → CondWithin n names c → Each Named (failed f c)
       named_failed NoTest s = tt
@@ -206,14 +207,14 @@ module _ (n names : ℕ) where
         go : (v : Bool) → Goes (follow c f) → Goes (follow d f) → Goes (cond v (asked (passed f b) (follow c f)) (asked (failed f b) (follow d f)))
         go true p q =
             record {
-              atoms = each_append Named (passed f b) (follow c f).atoms (named_passed f h b s.0) p.atoms;
+              atoms = append_each Named (passed f b) (follow c f).atoms (named_passed f h b s.0) p.atoms;
               prints = p.prints;
               written = p.written;
               forms = p.forms;
             }
         go false p q =
             record {
-              atoms = each_append Named (failed f b) (follow d f).atoms (named_failed f h b s.0) q.atoms;
+              atoms = append_each Named (failed f b) (follow d f).atoms (named_failed f h b s.0) q.atoms;
               prints = q.prints;
               written = q.written;
               forms = q.forms;
@@ -226,9 +227,9 @@ module _ (n names : ℕ) where
         let g = (follow c f).forms in
         let q = goes_all cs g s.1 p.forms in
         record {
-          atoms = each_append Named (follow c f).atoms (follow_all cs g).atoms p.atoms q.atoms;
-          prints = each_append Named (follow c f).prints (follow_all cs g).prints p.prints q.prints;
-          written = each_append (λ x. x < n) (follow c f).written (follow_all cs g).written p.written q.written;
+          atoms = append_each Named (follow c f).atoms (follow_all cs g).atoms p.atoms q.atoms;
+          prints = append_each Named (follow c f).prints (follow_all cs g).prints p.prints q.prints;
+          written = append_each (λ x. x < n) (follow c f).written (follow_all cs g).written p.written q.written;
           forms = q.forms;
         }
 
@@ -266,7 +267,7 @@ module _ (n names : ℕ) where
     unfolding follow_definitions plan_definitions
     placed_deltas [] h = tt
     placed_deltas (d ∷ ds) h =
-        each_append (IsPlaced n k) (deltas_from 0 k d.object) (expanded_deltas k ds) (placed_from 0 k d.object h.0 (omega arith)) (placed_deltas ds h.1)
+        append_each (IsPlaced n k) (deltas_from 0 k d.object) (expanded_deltas k ds) (placed_from 0 k d.object h.0 (omega arith)) (placed_deltas ds h.1)
 
     placed_remote : (i : ℕ) (ds : List Delta) → Each (IsPlaced n k) ds → Each (IsPlaced n k) (remote i ds)
     unfolding plan_definitions

@@ -22,7 +22,7 @@ use Rattle.homeo_plan.specs.Needs.{IsStraight}
 use Rattle.homeo_plan.specs.Planned.{sites_of, planned_call}
 use Rattle.homeo_plan.specs.SmallForms.{HasSmallForms}
 use Rattle.homeo_plan.specs.Split.{fold_state, shift}
-use Rattle.homeo_plan.specs.Table.{Row, HasNoTemps, table, row_at, walk}
+use Rattle.homeo_plan.specs.Table.{Row, table, row_at, walk}
 use Rattle.homeo_plan.specs.Template.{shifted}
 use Rattle.homeo_plan.proofs.AcceptedForms.{accepted_forms}
 use Rattle.homeo_plan.proofs.BoundSizes.{most}
@@ -34,16 +34,13 @@ use Rattle.homeo_plan.proofs.Tables.{row_at_walk}
 use Rattle.homeo_plan.proofs.Wider.{wider_forms}
 use Rattle.homeo_split.specs.CanExec.{run_limit, can_exec}
 use Rattle.homeo_split.proofs.SmallCommands.{small_law}
+use Rattle.homeo_follow.proofs.PlannedAtoms.{no_temps}
 use Rattle.homeo_delta.specs.SmallParts.{HasSmallParts}
 use Rattle.homeo_delta.proofs.SmallShifts.{runs_law}
 use Rattle.homeo_build.specs.inner.Planning.{CanPlan}
 use Rattle.homeo_build.proofs.FewSites.{sites_few}
 
 -- ---- a base without deltas
-no_temps : (b : ℕ → ℤ) → HasNoTemps (whole b)
-unfolding plan_definitions meaning_definitions
-no_temps b t = refl
-
 fold_base : (k : ℕ) (b : ℕ → ℤ) (x : ℕ) → fold_state k (whole b) (BaseAt x) ≡ b x
 unfolding plan_definitions meaning_definitions
 fold_base k b x = omega (arith, ints, sum_zero 0 k)

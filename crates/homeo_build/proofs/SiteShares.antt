@@ -27,7 +27,7 @@ use Rattle.homeo_plan.specs.PlanView.{plain_clause}
 use Rattle.homeo_plan.specs.declared.templates.Clause as declared
 use Rattle.homeo_build.specs.inner.Sharing.{AreOrEven}
 use Rattle.homeo_plan.proofs.Policy.{some_sites}
-use Rattle.homeo_config.proofs.Weighted.{each_at, number_back}
+use Rattle.homeo_config.proofs.Weighted.{each_at, number_back, nat_small}
 use Rattle.homeo_plan.proofs.Shares.{IsLight, are_shares, even_without, weights_light, light_own, shares_small}
 
 -- ---- natural numbers as numbers of the code
@@ -151,11 +151,7 @@ weight_past (n ∷ ns) (suc i) h = weight_past ns i (omega (arith, h))
 weight_low : (ns : List Number) (i : ℕ) → Each (λ n. n.value ≤ℤ pos 1000) ns → weight_of ns i ≤ 1000
 unfolding plan_definitions meaning_definitions
 weight_low [] i h = omega arith
-weight_low (n ∷ ns) zero h = below n.value h.0
-  where
-    below : (z : ℤ) → z ≤ℤ pos 1000 → nat_of z ≤ 1000
-    below (pos n) h = omega (arith, ints, h)
-    below (negsuc n) h = omega arith
+weight_low (n ∷ ns) zero h = nat_small n.value h.0
 weight_low (n ∷ ns) (suc i) h = weight_low ns i h.1
 
 pub weight_back : (ns : List Number) (i : ℕ) (z : ℤ) → Each (λ n. n.value ≤ℤ pos 1000) ns → z ≡ pos (weight_of ns i) → to_z w64 (of_z w64 z) ≡ z

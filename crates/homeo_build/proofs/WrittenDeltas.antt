@@ -3,8 +3,9 @@ use Rattle.std.proofs.Common.{◌≡◌, ℕ, zero, suc, ◌+◌, ◌<◌, ◌�
 use Rattle.std.specs.Prelude.{◌⊎◌, ◌==◌, ◌&&◌, ◌||◌, if◌then◌else◌, replicate}
 use Rattle.std.specs.List.{list_any}
 use Rattle.std.proofs.lemmas.Bool.{cases_eq, eq-eqb, ne_eqb}
-use Rattle.std.proofs.lemmas.Bool.Decides.{nat_tests}
 use Rattle.std.proofs.lemmas.List.{take_more, take_all, map_push, map-id, map-set, length-map, length-set, length-replicate, get_or-map, get_or-set_same, get_or-set_other}
+use Rattle.homeo_lemmas.proofs.Bools.{or_false, or_unassoc}
+use Rattle.homeo_lemmas.proofs.Naturals.{nat_turned}
 use Rattle.homeo_syntax.specs.LowView.{low_commands, plain_lcommand}
 use Rattle.homeo_syntax.specs.Low.{Expr, Cond, Command, Commands, Skip, Assign, Write, Print, Seq, If, NoCommand, MoreCommand}
 use Rattle.homeo_syntax.specs.declared.low.Temp.{Temp}
@@ -31,31 +32,22 @@ use Rattle.homeo_build.specs.Written.{delta_at, AreWritten}
 use Rattle.homeo_build.specs.inner.WrittenObjects.{names_whole, writes_object, any_writes_object}
 use Rattle.homeo_build.proofs.GroundCalls.{of_call, of_calls}
 
--- ---- truth values
-or_none : (a : Bool) → (a || false) ≡ a
-or_none true = refl
-or_none false = refl
-
-or_again : (a b c : Bool) → ((a || b) || c) ≡ (a || (b || c))
-or_again true b c = refl
-or_again false b c = refl
-
 -- ---- marks of a row
 -- at each object the row is what it was, or what is marked
 abbrev pub Marked : List Bool → List Bool → (ℕ → Bool) → Type 0
 Marked new old more = (x : ℕ) → get_or new x false ≡ (get_or old x false || more x)
 
 pub marks_none : (row : List Bool) (more : ℕ → Bool) → ((x : ℕ) → more x ≡ false) → Marked row row more
-marks_none row more none x = sym (ap (λ b. get_or row x false || b) (none x) ∙ or_none (get_or row x false))
+marks_none row more none x = sym (ap (λ b. get_or row x false || b) (none x) ∙ or_false (get_or row x false))
 
 pub marks_both : (new row old : List Bool) (f g : ℕ → Bool) → Marked new row g → Marked row old f → Marked new old (λ x. f x || g x)
 marks_both new row old f g later first x =
-    later x ∙ ap (λ b. b || g x) (first x) ∙ or_again (get_or old x false) (f x) (g x)
+    later x ∙ ap (λ b. b || g x) (first x) ∙ or_unassoc (get_or old x false) (f x) (g x)
 
 put_one : (b c : Bool) → (if b then true else c) ≡ (c || b)
 put_one true true = refl
 put_one true false = refl
-put_one false c = sym (or_none c)
+put_one false c = sym (or_false c)
 
 -- a whole object is put
 pub name_marks :
@@ -64,10 +56,7 @@ pub name_marks :
 unfolding definitions
 name_marks new old object name is put x =
     put x ∙ put_one (object == x) (get_or old x false)
-    ∙ ap (λ b. get_or old x false || b) (same_number object x ∙ sym (ap (names_whole x) is))
-  where
-    same_number : (n x : ℕ) → (n == x) ≡ (x == n)
-    same_number n x = grind (arith, nat_tests)
+    ∙ ap (λ b. get_or old x false || b) (nat_turned object x ∙ sym (ap (names_whole x) is))
 
 -- no other name is that of a whole object
 pub marks_divided :
@@ -80,8 +69,8 @@ marks_divided row name (inr d) = marks_none row (λ x. names_whole x name) (λ x
 -- ---- commands one after another
 low_push : (cs : List Command) (c : Command) (x : ℕ) → any_writes_object x (low_commands (cs ++ c ∷ [])) ≡ (any_writes_object x (low_commands cs) || writes_object x c)
 unfolding definitions syntax_definitions
-low_push [] c x = or_none (writes_object x c)
-low_push (d ∷ cs) c x = ap (λ b. writes_object x d || b) (low_push cs c x) ∙ sym (or_again (writes_object x d) (any_writes_object x (low_commands cs)) (writes_object x c))
+low_push [] c x = or_false (writes_object x c)
+low_push (d ∷ cs) c x = ap (λ b. writes_object x d || b) (low_push cs c x) ∙ sym (or_unassoc (writes_object x d) (any_writes_object x (low_commands cs)) (writes_object x c))
 
 pub marks_more :
     (cs : List LCommand) (i : ℕ) (c : LCommand) (new row old : List Bool) → i < length cs → c ≡ get_or cs i c →
@@ -191,10 +180,10 @@ tell_begin w calls rows k count are = record {
 
 written_push : (k : ℕ) (gs : List PlannedCall) (g : PlannedCall) (d : Delta) → is_written k (gs ++ g ∷ []) d ≡ (is_written k gs d || ((g.site == d.site) && writes d (shifted k g)))
 unfolding plan_definitions
-written_push k [] g d = or_none ((g.site == d.site) && writes d (shifted k g))
+written_push k [] g d = or_false ((g.site == d.site) && writes d (shifted k g))
 written_push k (f ∷ gs) g d =
     ap (λ b. ((f.site == d.site) && writes d (shifted k f)) || b) (written_push k gs g d)
-    ∙ sym (or_again ((f.site == d.site) && writes d (shifted k f)) (is_written k gs d) ((g.site == d.site) && writes d (shifted k g)))
+    ∙ sym (or_unassoc ((f.site == d.site) && writes d (shifted k f)) (is_written k gs d) ((g.site == d.site) && writes d (shifted k g)))
 
 module _ (w : s.Workload) (calls : List GroundCall) (n : ℕ) (call : GroundCall) (within : n < length calls) (is : call ≡ get_or calls n call) where
   one_more :
@@ -238,7 +227,7 @@ module _ (w : s.Workload) (calls : List GroundCall) (n : ℕ) (call : GroundCall
           ap (λ r. get_or r x false) (get_or-set_other (map f rows) call.site i (f new) [] differ) ∙ told.tell i x h
           ∙ sym (one_more k (delta_at i x)
           ∙ ap (λ b. is_written k (first_calls w calls n) (delta_at i x) || (b && writes (delta_at i x) (shift k call.site (ground_form w (plain_ground call))))) (ne_eqb call.site i (λ e. differ (sym e)))
-          ∙ or_none (is_written k (first_calls w calls n) (delta_at i x)))
+          ∙ or_false (is_written k (first_calls w calls n) (delta_at i x)))
 
 pub tell_all : (w : s.Workload) (calls : List GroundCall) (n : ℕ) (rows : List (List Bool)) → length calls ≤ n → map plain_ground calls ≡ grounds w → Tell w (first_calls w calls n) rows → AreWritten w rows
 tell_all w calls n rows past are told =

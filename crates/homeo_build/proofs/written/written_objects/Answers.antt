@@ -1,11 +1,12 @@
 -- The form of each call marks the row of the call's site.
 use Rattle.std.proofs.Common.{map, arith}
 use Rattle.std.proofs.lemmas.List.{length-map}
+use Rattle.homeo_lemmas.proofs.Places.{one_placed}
 use Rattle.homeo_syntax.specs.LowView.{plain_lcommand}
 use Rattle.homeo_syntax.specs.SourceView.{plain_workload}
 use Rattle.homeo_meaning.specs.CallForm.{ground_form}
 use Rattle.homeo_meaning.specs.Ground.{plain_ground}
-use Rattle.homeo_build.proofs.FormsMade.{form_here, one_placed}
+use Rattle.homeo_build.proofs.FormsMade.{form_here}
 use Rattle.homeo_build.proofs.GroundCalls.{can_here}
 use Rattle.homeo_build.proofs.WrittenDeltas.{tell_begin, tell_more, tell_all}
 use Rattle.homeo_build.proofs.written.written_objects.Goals as goal

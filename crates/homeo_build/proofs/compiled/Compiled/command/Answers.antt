@@ -3,6 +3,7 @@ use Rattle.std.proofs.Common.{◌<◌, map, Some, sym, ap, ap₂, subst, ◌∙�
 use Rattle.std.specs.Prelude.{slice_get}
 use Rattle.std.proofs.lemmas.List.{length-map}
 use Rattle.std.proofs.lemmas.Result.{IfOk-weaker}
+use Rattle.homeo_lemmas.proofs.Places.{one_placed}
 use Rattle.homeo_syntax.specs.LowView.{plain_lcommand}
 use Rattle.homeo_syntax.specs.SourceView.{plain_workload}
 use Rattle.homeo_syntax.specs.declared.workload.Workload.{Workload}
@@ -15,7 +16,7 @@ use Rattle.homeo_plan.specs.Planned.{sites_of}
 use Rattle.homeo_plan.specs.Split.{shift}
 use Rattle.homeo_plan.specs.Template.{shifted}
 use Rattle.homeo_plan.proofs.GroundForms.{ground_whole}
-use Rattle.homeo_build.proofs.FormsMade.{form_here, one_placed, placed_map}
+use Rattle.homeo_build.proofs.FormsMade.{form_here, placed_map}
 use Rattle.homeo_build.proofs.GroundCalls.{of_call, of_calls, can_here, ground_below}
 use Rattle.homeo_build.proofs.compiled.Compiled.command.Goals as goal
 

@@ -2,13 +2,14 @@
 use Rattle.std.proofs.Common.{◌≡◌, ℕ, zero, suc, ◌<◌, List, [], ◌∷◌, map, length, get_or, Some, ap, ◌∙◌, arith}
 use Rattle.std.specs.Prelude.{slice_get}
 use Rattle.std.proofs.lemmas.List.{length-map}
+use Rattle.homeo_lemmas.proofs.Places.{one_placed}
 use Rattle.homeo_syntax.specs.LowView.{plain_lcommand}
 use Rattle.homeo_syntax.specs.SourceView.{plain_workload}
 use Rattle.homeo_meaning.specs.Ground.{Ground, grounds}
 use Rattle.homeo_plan.specs.Key.{definitions as plan_definitions}
 use Rattle.homeo_plan.specs.Planned.{planned_call}
 use Rattle.homeo_plan.specs.Template.{PlannedCall}
-use Rattle.homeo_build.proofs.FormsMade.{form_of_ground, one_placed}
+use Rattle.homeo_build.proofs.FormsMade.{form_of_ground}
 use Rattle.homeo_build.proofs.compiled.Compiled.form.Goals as goal
 
 no_call : Ground

@@ -1,10 +1,11 @@
 -- One atom more.
+use Rattle.homeo_lemmas.proofs.Bools.{or_nothing}
 use Rattle.homeo_build.specs.inner.Frozen.{is_frozen_in}
-use Rattle.homeo_build.proofs.FrozenSteps.{nothing_named, mixed_next}
+use Rattle.homeo_build.proofs.FrozenSteps.{mixed_next}
 use Rattle.homeo_build.proofs.frozen.FrozenObjects.mix.Goals as goal
 
 pub loop-atom-init : goal.loop-atom-init
-loop-atom-init c = λ x j. nothing_named (is_frozen_in c.args.self.now x j)
+loop-atom-init c = λ x j. or_nothing (is_frozen_in c.args.self.now x j)
 
 pub loop-atom-preserved : goal.loop-atom-preserved
 loop-atom-preserved c =
