@@ -3,6 +3,7 @@ use Rattle.std.proofs.Common.{◌≡◌, ℕ, zero, suc, ◌==◌, ◌+◌, ◌<
 use Rattle.std.specs.Prelude.{◌||◌}
 use Rattle.std.proofs.lemmas.Bool.Decides.{nat_tests}
 use Rattle.std.proofs.lemmas.List.Folds.{list_any-append}
+use Rattle.homeo_lemmas.proofs.Bools.{or_false}
 use Rattle.homeo_plan.specs.Key.{definitions as plan_definitions}
 use Rattle.homeo_plan.specs.declared.forms.Term.{Term}
 use Rattle.homeo_plan.specs.Linear.{delta_of}
@@ -53,9 +54,6 @@ module _ (x i : ℕ) where
   here j zero y f h l = absurd (omega (arith, h, l))
   here j (suc n) y f h l = go (here (suc j) n y f) (j == i) refl
     where
-      or_false : (b : Bool) → (b || false) ≡ b
-      or_false true = refl
-      or_false false = refl
 
       go :
           (suc j ≤ i → i < suc j + n → are_on (delta_of x i ∷ []) (terms_from (suc j) n y f) ≡ (y == x)) → (v : Bool) → (j == i) ≡ v →

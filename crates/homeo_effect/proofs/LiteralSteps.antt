@@ -1,6 +1,7 @@
 -- One more term or factor of literals.
 use Rattle.std.proofs.Common.{◌≡◌, ℕ, ◌+◌, ◌<◌, ◌≤◌, ℤ, ◌+ℤ◌, ◌*ℤ◌, true, Some, None, List, map, drop, get_or, length, sym, ap, ◌∙◌, subst}
 use Rattle.std.proofs.lemmas.Bool.{and_parts}
+use Rattle.homeo_lemmas.proofs.Lists.{map_drop_past}
 use Rattle.homeo_syntax.specs.Key.{definitions as syntax_definitions}
 use Rattle.homeo_syntax.specs.LowView.{low_exprs, plain_lexpr}
 use Rattle.homeo_syntax.specs.Low as l
@@ -8,7 +9,7 @@ use Rattle.homeo_syntax.specs.declared.low.LExpr.{LExpr}
 use Rattle.homeo_meaning.specs.Key.{definitions as meaning_definitions}
 use Rattle.homeo_meaning.specs.LowMeaning.{State}
 use Rattle.homeo_meaning.specs.Small.{is_small}
-use Rattle.homeo_meaning.proofs.Steps.{drop_next, drop_none}
+use Rattle.homeo_meaning.proofs.Steps.{drop_next}
 use Rattle.homeo_split.specs.Key.{definitions as split_definitions}
 use Rattle.homeo_split.specs.CanExec.{run_limit, sum_fits, product_fits}
 use Rattle.homeo_effect.specs.Key.{definitions}
@@ -69,8 +70,8 @@ module _ (es : List LExpr) (i : ℕ) (e : LExpr) (h : i < length es) (p : e ≡ 
 
 pub sum_done : (n : ℤ) (es : List LExpr) (i : ℕ) → length es ≤ i → Some n ≡ literal_sum n (low_exprs (map plain_lexpr (drop i es)))
 unfolding definitions syntax_definitions
-sum_done n es i h = sym (ap (λ ts. literal_sum n (low_exprs ts)) (drop_none plain_lexpr es i h))
+sum_done n es i h = sym (ap (λ ts. literal_sum n (low_exprs ts)) (map_drop_past plain_lexpr es i h))
 
 pub product_done : (n : ℤ) (es : List LExpr) (i : ℕ) → length es ≤ i → Some n ≡ literal_product n (low_exprs (map plain_lexpr (drop i es)))
 unfolding definitions syntax_definitions
-product_done n es i h = sym (ap (λ ts. literal_product n (low_exprs ts)) (drop_none plain_lexpr es i h))
+product_done n es i h = sym (ap (λ ts. literal_product n (low_exprs ts)) (map_drop_past plain_lexpr es i h))

@@ -1,8 +1,9 @@
 -- The commands of a site run there as the residual does.
-use Rattle.std.proofs.Common.{◌≡◌, ℕ, ◌==◌, ℤ, pos, Bool, true, false, cond, ◌&&◌, All, List, [], ◌∷◌, map, refl, sym, ap, ◌∙◌, subst, arith}
+use Rattle.std.proofs.Common.{◌≡◌, ℕ, ◌==◌, ℤ, pos, true, false, cond, ◌&&◌, All, List, [], ◌∷◌, map, refl, sym, ap, ◌∙◌, subst, arith}
 use Rattle.std.proofs.lemmas.Bool.{and_parts}
 use Rattle.std.proofs.lemmas.Bool.Decides.{nat_tests}
 use Rattle.std.proofs.lemmas.List.Elements.{All-nil, All-cons}
+use Rattle.homeo_lemmas.proofs.Bools.{and_false, both}
 use Rattle.homeo_syntax.specs.Key.{definitions as syntax_definitions}
 use Rattle.homeo_syntax.specs.LowView.{low_commands, plain_lcommand}
 use Rattle.homeo_syntax.specs.declared.low.LCommand.{LCommand}
@@ -19,7 +20,7 @@ use Rattle.homeo_effect.specs.Key.{definitions}
 use Rattle.homeo_effect.specs.Localized.{local_command, localized}
 use Rattle.homeo_effect.specs.Touched.{with_delta, written, WritesOwn}
 use Rattle.homeo_effect.specs.inner.Alone.{IsAlone, CommandFits}
-use Rattle.homeo_effect.proofs.Localizing.{both, same_value, fits_too}
+use Rattle.homeo_effect.proofs.Localizing.{same_value, fits_too}
 
 -- ---- where runs begin
 pub alone_is_alone : (b : ℕ → ℤ) (i : ℕ) (x : Deltas) → IsAlone b i (alone b i x)
@@ -51,9 +52,6 @@ module _ (b : ℕ → ℤ) (i : ℕ) where
   stays_alone (Write (Base x) e) s st w a = absurd st
   stays_alone (Write (Delta x j) e) s st w a = record { bases = a.bases; others = λ y k q. other y k q }
     where
-      and_false : (v : Bool) → (v && false) ≡ false
-      and_false true = refl
-      and_false false = refl
 
       other : (y k : ℕ) → (k == i) ≡ false → cond ((x == y) && (j == k)) (value e s) (s (DeltaAt y k)) ≡ pos 0
       other y k q =

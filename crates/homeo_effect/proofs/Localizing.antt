@@ -1,6 +1,7 @@
 -- An expression at its site is worth what the given one is in each state of the site, and its numbers are small where those are.
-use Rattle.std.proofs.Common.{◌≡◌, ℕ, ◌==◌, ℤ, pos, ◌+ℤ◌, ◌*ℤ◌, neg_ℤ, Bool, true, false, cond, ◌&&◌, refl, sym, ap, ◌∙◌, subst}
+use Rattle.std.proofs.Common.{◌≡◌, ℕ, ◌==◌, ℤ, pos, ◌+ℤ◌, ◌*ℤ◌, neg_ℤ, Bool, true, false, cond, refl, sym, ap, ◌∙◌, subst}
 use Rattle.std.proofs.lemmas.Bool.{and_parts}
+use Rattle.homeo_lemmas.proofs.Bools.{both}
 use Rattle.homeo_syntax.specs.declared.low.SplitName.{SplitName}
 use Rattle.homeo_syntax.specs.declared.low.SplitName.TheVariants.{Whole, Base, Delta}
 use Rattle.homeo_syntax.specs.Low.{Expr, Exprs, Literal, OfTemp, Read, Sum, Product, Neg, NoExpr, MoreExpr}
@@ -13,9 +14,6 @@ use Rattle.homeo_effect.specs.Key.{definitions}
 use Rattle.homeo_effect.specs.Localized.{local_read, local_expr, local_exprs}
 use Rattle.homeo_effect.specs.inner.Alone.{IsAlone}
 use Rattle.homeo_effect.proofs.Literals.{summed_value, multiplied_value, negated_value, summed_fits, multiplied_fits, negated_fits}
-
-pub both : {t u : Bool} → t ≡ true → u ≡ true → (t && u) ≡ true
-both {t} {u} e f = ap (λ v. v && u) e ∙ f
 
 module _ (b : ℕ → ℤ) (i : ℕ) (s : State) (a : IsAlone b i s) where
   -- ---- values

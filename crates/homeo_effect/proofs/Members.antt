@@ -1,11 +1,12 @@
 -- Lists of numbers that have the same members.
-use Rattle.std.proofs.Common.{◌≡◌, ℕ, ◌==◌, ◌+◌, ◌<◌, ◌≤◌, Bool, true, false, List, [], ◌∷◌, length, take, get_or, refl, sym, ap, ◌∙◌, arith}
+use Rattle.std.proofs.Common.{◌≡◌, ℕ, ◌==◌, ◌+◌, ◌<◌, ◌≤◌, Bool, true, false, List, [], ◌∷◌, length, take, get_or, refl, sym, ap, ◌∙◌}
 use Rattle.std.specs.Prelude.{◌||◌}
 use Rattle.std.specs.List.{list_any}
-use Rattle.std.proofs.lemmas.Bool.Decides.{nat_tests}
 use Rattle.std.proofs.lemmas.List.Folds.{list_any_more}
+use Rattle.std.proofs.lemmas.Bool.{or_left, or_right}
+use Rattle.homeo_lemmas.proofs.Lists.{take_past}
+use Rattle.homeo_lemmas.proofs.Naturals.{nat_is, nat_itself}
 use Rattle.homeo_outline.specs.Numbers.{has}
-use Rattle.homeo_effect.proofs.WrittenDeltas.{all_taken}
 
 false_not : {A : Type 0} → false ≡ true → A
 false_not e = let no : ⊥ = cc in absurd no
@@ -19,34 +20,20 @@ either : (a b : Bool) (C : Type 0) → (a || b) ≡ true → (a ≡ true → C) 
 either true b C h p q = p refl
 either false b C h p q = q h
 
-first_holds : (a b : Bool) → a ≡ true → (a || b) ≡ true
-first_holds true b h = refl
-first_holds false b h = false_not h
-
-later_holds : (a b : Bool) → b ≡ true → (a || b) ≡ true
-later_holds true b h = refl
-later_holds false b h = h
-
-itself : (x : ℕ) → (x == x) ≡ true
-itself x = grind (arith, nat_tests)
-
-same_number : (x y : ℕ) → (x == y) ≡ true → x ≡ y
-same_number x y h = grind (arith, nat_tests)
-
 -- one that passes is a member that passes
 passing : (P : ℕ → Bool) (xs : List ℕ) → list_any P xs ≡ true → (x : ℕ) × (has x xs ≡ true) × (P x ≡ true)
 passing P [] h = false_not h
 passing P (y ∷ ys) h =
     either (P y) (list_any P ys) ((x : ℕ) × (has x (y ∷ ys) ≡ true) × (P x ≡ true)) h
-    (λ p. (y, first_holds (y == y) (has y ys) (itself y), p))
-    (λ q. let m = passing P ys q in (m.0, later_holds (m.0 == y) (has m.0 ys) m.1, m.2))
+    (λ p. (y, or_left (y == y) (has y ys) (nat_itself y), p))
+    (λ q. let m = passing P ys q in (m.0, or_right (m.0 == y) (has m.0 ys) m.1, m.2))
 
 member_passes : (P : ℕ → Bool) (xs : List ℕ) (x : ℕ) → has x xs ≡ true → P x ≡ true → list_any P xs ≡ true
 member_passes P [] x h p = false_not h
 member_passes P (y ∷ ys) x h p =
     either (x == y) (has x ys) (list_any P (y ∷ ys) ≡ true) h
-    (λ e. first_holds (P y) (list_any P ys) (sym (ap P (same_number x y e)) ∙ p))
-    (λ q. later_holds (P y) (list_any P ys) (member_passes P ys x q p))
+    (λ e. or_left (P y) (list_any P ys) (sym (ap P (nat_is x y e)) ∙ p))
+    (λ q. or_right (P y) (list_any P ys) (member_passes P ys x q p))
 
 same_members : (P : ℕ → Bool) (xs ys : List ℕ) → ((x : ℕ) → has x xs ≡ has x ys) → list_any P xs ≡ list_any P ys
 same_members P xs ys h =
@@ -61,4 +48,4 @@ module _ (P : ℕ → Bool) (xs : List ℕ) (k : ℕ) where
 
   pub all_found :
       length xs ≤ k → (held : List ℕ) → xs ≡ held → (ys : List ℕ) → ((x : ℕ) → has x held ≡ has x ys) → list_any P (take k xs) ≡ list_any P ys
-  all_found past held e ys same = ap (list_any P) (all_taken xs k past ∙ e) ∙ same_members P held ys same
+  all_found past held e ys same = ap (list_any P) (take_past xs k past ∙ e) ∙ same_members P held ys same

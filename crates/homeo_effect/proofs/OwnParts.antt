@@ -1,6 +1,7 @@
 -- The commands that are made of a residual are those of its site alone.
 use Rattle.std.proofs.Common.{◌≡◌, ℕ, ◌==◌, ℤ, pos, Bool, true, false, cond, Option, Some, None, refl, arith}
 use Rattle.std.proofs.lemmas.Bool.Decides.{nat_tests}
+use Rattle.homeo_lemmas.proofs.Bools.{both}
 use Rattle.homeo_syntax.specs.declared.low.SplitName.TheVariants.{Whole, Base, Delta}
 use Rattle.homeo_syntax.specs.Low.{Expr, Exprs, Literal, OfTemp, Read, Sum, Product, Neg, NoExpr, MoreExpr, Commands, Skip, Assign, Write, Print, Seq, If, NoCommand, MoreCommand}
 use Rattle.homeo_plan.specs.Key.{definitions as plan_definitions}
@@ -9,7 +10,6 @@ use Rattle.homeo_effect.specs.Key.{definitions}
 use Rattle.homeo_effect.specs.Localized.{literal_sum, literal_product, literal_or, negated, local_expr, local_exprs, localized}
 use Rattle.homeo_effect.specs.OwnCommands.{reads_own, read_own, are_own}
 use Rattle.homeo_effect.specs.Touched.{WritesOwn}
-use Rattle.homeo_effect.proofs.Localizing.{both}
 
 own_or : (i : ℕ) (o : Option ℤ) (e : Expr) → reads_own i e ≡ true → reads_own i (literal_or o e) ≡ true
 unfolding definitions

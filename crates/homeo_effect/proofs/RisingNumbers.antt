@@ -7,6 +7,7 @@ use Rattle.std.specs.Ordering.{nat_cmp}
 use Rattle.std.specs.declared.cmp.Ordering.TheVariants.{Less, Equal, Greater}
 use Rattle.std.proofs.lemmas.Bool.{false≢true}
 use Rattle.std.proofs.lemmas.Bool.Decides.{nat_tests}
+use Rattle.homeo_lemmas.proofs.Bools.{or_again}
 use Rattle.homeo_outline.specs.Numbers.{has, numbers_where}
 
 -- ---- two tests
@@ -134,16 +135,13 @@ module _ (n : ℕ) where
   kept_from k [] = refl
   kept_from k (x ∷ xs) = go (kept_from k xs) (kept_from x xs) (x == k) refl
     where
-      twice : (a b : Bool) → (a || b) ≡ (a || (a || b))
-      twice true b = refl
-      twice false b = refl
 
       go :
           has n (dedup_from eqb k xs) ≡ ((n == k) || has n xs) → has n (dedup_from eqb x xs) ≡ ((n == x) || has n xs) →
           (v : Bool) → (x == k) ≡ v → has n (cond v (dedup_from eqb k xs) (k ∷ dedup_from eqb x xs)) ≡ ((n == k) || has n (x ∷ xs))
       go here more true q =
           let e : x ≡ k = grind (arith, nat_tests) in
-          here ∙ twice (n == k) (has n xs) ∙ ap (λ y. (n == k) || ((n == y) || has n xs)) (sym e)
+          here ∙ or_again (n == k) (has n xs) ∙ ap (λ y. (n == k) || ((n == y) || has n xs)) (sym e)
       go here more false q = ap (λ v. (n == k) || v) more
 
   pub kept : (xs : List ℕ) → has n (dedup eqb xs) ≡ has n xs

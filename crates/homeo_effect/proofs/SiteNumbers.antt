@@ -5,6 +5,7 @@ use Rattle.std.proofs.lemmas.Bool.{false≢true}
 use Rattle.std.proofs.lemmas.Bool.Decides.{nat_tests}
 use Rattle.std.proofs.lemmas.List.{length-map}
 use Rattle.std.proofs.lemmas.List.Folds.{list_any-append, list_any_more}
+use Rattle.homeo_lemmas.proofs.Bools.{or_true}
 use Rattle.homeo_syntax.specs.declared.list.List.{List as Held}
 use Rattle.homeo_plan.specs.declared.forms.Delta.{Delta}
 use Rattle.homeo_plan.specs.declared.forms.Term.{Term}
@@ -77,10 +78,6 @@ there : (ns : List ℕ) (k : ℕ) → k < length ns → has (get_or ns k 0) ns �
 there [] k lt = absurd (omega arith)
 there (n ∷ ns) zero lt = has_first n ns
 there (n ∷ ns) (suc k) lt = ap (λ v. (get_or ns k 0 == n) || v) (there ns k (omega arith)) ∙ or_true (get_or ns k 0 == n)
-  where
-    or_true : (b : Bool) → (b || true) ≡ true
-    or_true true = refl
-    or_true false = refl
 
 module _ (o : Outlined) (tss : List (Held Term)) (fs : List Delta) (terms : map (λ l. l.items) tss ≡ o.terms) (freezes : fs ≡ o.freezes) where
   counted : length tss ≡ length o.terms
@@ -152,7 +149,3 @@ module _ (passes : ℕ → Bool) (ns : List ℕ) (k : ℕ) (lt : k < length ns) 
         go : (v : Bool) → (n == m) ≡ v → (has n first || (has n (take k ns) && passes n)) ≡ (has n first || ((has n (take k ns) || v) && passes n))
         go true q = let e : n ≡ m = grind (arith, nat_tests) in here (has n first) (has n (take k ns)) (passes n) (ap passes e ∙ p)
         go false q = bools (has n first) (has n (take k ns)) (passes n)
-
-pub none_passed : (b : Bool) → b ≡ (b || false)
-none_passed true = refl
-none_passed false = refl

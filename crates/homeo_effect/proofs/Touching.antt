@@ -5,6 +5,7 @@ use Rattle.std.specs.Prelude.{◌||◌}
 use Rattle.std.specs.List.{list_any}
 use Rattle.std.specs.List.Sorted.{IsStrictlySortedBy}
 use Rattle.std.specs.Ordering.{nat_cmp}
+use Rattle.homeo_lemmas.proofs.Bools.{or_nothing}
 use Rattle.homeo_plan.specs.Key.{definitions as plan_definitions}
 use Rattle.homeo_plan.specs.Each.{Each}
 use Rattle.homeo_plan.specs.declared.forms.Delta.{Delta}
@@ -101,11 +102,7 @@ none_among d = refl
 at_site : (i x n : ℕ) (fs : List Delta) → numbers_where (λ d. (d.object == x) && (d.site == i)) n fs ≡ numbers_where (is_among (delta_of x i ∷ [])) n fs
 unfolding definitions plan_definitions
 at_site i x n [] = refl
-at_site i x n (f ∷ fs) = ap₂ (λ v ns. cond v (n ∷ ns) ns) (or_false ((f.object == x) && (f.site == i))) (at_site i x (suc n) fs)
-  where
-    or_false : (b : Bool) → b ≡ (b || false)
-    or_false true = refl
-    or_false false = refl
+at_site i x n (f ∷ fs) = ap₂ (λ v ns. cond v (n ∷ ns) ns) (or_nothing ((f.object == x) && (f.site == i))) (at_site i x (suc n) fs)
 
 freezes_are :
     (i : ℕ) (o : Outlined) (ds : List Delta) → Each (λ d. d.site ≡ i) ds → (ns : List ℕ) → IsStrictlySortedBy nat_cmp ns →

@@ -1,8 +1,8 @@
 -- What a residual does not write stays, and so does each sum over it.
 use Rattle.std.proofs.Common.{◌≡◌, ℕ, ◌==◌, ℤ, pos, ◌+ℤ◌, ◌*ℤ◌, Bool, true, false, cond, ◌&&◌, List, [], ◌∷◌, refl, sym, ap, ap₂, ◌∙◌, arith}
-use Rattle.std.specs.Prelude.{◌||◌}
-use Rattle.std.proofs.lemmas.Bool.{false≢true}
+use Rattle.std.proofs.lemmas.Bool.{or_parts}
 use Rattle.std.proofs.lemmas.Bool.Decides.{nat_tests}
+use Rattle.homeo_lemmas.proofs.Naturals.{nat_turned}
 use Rattle.homeo_syntax.specs.declared.low.SplitName.TheVariants as split
 use Rattle.homeo_syntax.specs.Low.{Commands, Skip, Assign, Write, Print, Seq, If, NoCommand, MoreCommand}
 use Rattle.homeo_meaning.specs.Key.{definitions as meaning_definitions}
@@ -17,10 +17,6 @@ use Rattle.homeo_plan.specs.Treaty.{site_sum}
 use Rattle.homeo_effect.specs.Key.{definitions}
 use Rattle.homeo_effect.specs.Touched.{written, is_among, are_on, is_touched}
 
-neither : (a b : Bool) → (a || b) ≡ false → (a ≡ false) × (b ≡ false)
-neither true b h = absurd (false≢true (sym h))
-neither false b h = (refl, h)
-
 -- a delta that is not written
 module _ (d : Delta) where
   pub delta_stays :
@@ -32,15 +28,13 @@ module _ (d : Delta) where
   delta_stays (MoreCommand (Write (split.Whole x) e) cs) s st h = absurd st.0
   delta_stays (MoreCommand (Write (split.Base x) e) cs) s st h = absurd st.0
   delta_stays (MoreCommand (Write (split.Delta x j) e) cs) s st h =
-      let parts = neither _ _ h in
+      let parts = or_parts _ _ h in
       delta_stays cs _ st.1 parts.1
       ∙ ap (λ v. cond v (value e s) (s (DeltaAt d.object d.site))) (other x j parts.0)
     where
-      turned : (m n : ℕ) → (m == n) ≡ (n == m)
-      turned m n = grind (arith, nat_tests)
 
       other : (x j : ℕ) → ((d.object == x) && (d.site == j)) ≡ false → ((x == d.object) && (j == d.site)) ≡ false
-      other x j h = ap₂ ◌&&◌ (turned x d.object) (turned j d.site) ∙ h
+      other x j h = ap₂ ◌&&◌ (nat_turned x d.object) (nat_turned j d.site) ∙ h
   delta_stays (MoreCommand (Print e) cs) s st h = delta_stays cs s st.1 h
   delta_stays (MoreCommand (Seq ds) cs) s st h = absurd st.0
   delta_stays (MoreCommand (If t c e) cs) s st h = absurd st.0
@@ -59,7 +53,7 @@ module _ (b : ℕ → ℤ) (i : ℕ) (x : Deltas) (cs : Commands) (st : IsStraig
   unfolding definitions plan_definitions
   sums_stay [] h = refl
   sums_stay (t ∷ ts) h =
-      let parts = neither (is_among (written cs) t.delta) (are_on (written cs) ts) h in
+      let parts = or_parts (is_among (written cs) t.delta) (are_on (written cs) ts) h in
       ap₂ ◌+ℤ◌ (one parts.0 (t.delta.site == i) refl) (sums_stay ts parts.1)
     where
       one :

@@ -1,6 +1,5 @@
 -- What one more command writes.
-use Rattle.std.proofs.Common.{◌≡◌, ℕ, ◌+◌, ◌<◌, ◌≤◌, List, [], ◌∷◌, ◌++◌, map, take, get_or, length, refl, sym, ap, ◌∙◌, arith}
-use Rattle.std.proofs.lemmas.Grind.{common_steps}
+use Rattle.std.proofs.Common.{◌≡◌, ℕ, ◌+◌, ◌<◌, List, [], ◌∷◌, ◌++◌, map, take, get_or, length, refl, sym, ap, ◌∙◌}
 use Rattle.std.proofs.lemmas.List.{take_more, map-append}
 use Rattle.homeo_syntax.specs.Key.{definitions as syntax_definitions}
 use Rattle.homeo_syntax.specs.Low as l
@@ -40,6 +39,3 @@ objects_more f cs k c lt p before after so_far more =
     more ∙ ap (λ (xs : List ℕ). xs ++ objects_of last) so_far
     ∙ sym (map-append (λ (d : Delta). d.object) first last)
     ∙ ap objects_of (sym (ap (λ ds. written (low_commands ds)) taken ∙ written_more (map f (take k cs)) (f c)))
-
-pub all_taken : {A : Type 0} (xs : List A) (k : ℕ) → length xs ≤ k → take k xs ≡ xs
-all_taken xs k h = grind (arith, common_steps)

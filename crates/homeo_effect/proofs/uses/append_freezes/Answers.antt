@@ -1,14 +1,15 @@
 -- One more number.
 use Rattle.std.proofs.Common.{ℕ, ◌&&◌, Vec, Global, ap, ◌∙◌}
 use Rattle.std.specs.Prelude.{◌||◌}
+use Rattle.homeo_lemmas.proofs.Bools.{or_nothing}
+use Rattle.homeo_lemmas.proofs.Lists.{take_past}
 use Rattle.homeo_outline.specs.Numbers.{has}
-use Rattle.homeo_effect.proofs.SiteNumbers.{is_at_site, none_passed, freezes_at_site, freeze_within, is_of_site, is_of_other, number_passed, number_passed_over}
-use Rattle.homeo_effect.proofs.WrittenDeltas.{all_taken}
+use Rattle.homeo_effect.proofs.SiteNumbers.{is_at_site, freezes_at_site, freeze_within, is_of_site, is_of_other, number_passed, number_passed_over}
 use Rattle.homeo_effect.proofs.uses.append_freezes.Goals.{then-freezes-number+in_ok-push, else-freezes-number}
 use Rattle.homeo_effect.proofs.uses.append_freezes.Goals as goal
 
 pub loop-number-init : goal.loop-number-init
-loop-number-init c n = none_passed (has n c.args.numbers.now.items)
+loop-number-init c n = or_nothing (has n c.args.numbers.now.items)
 
 pub overflow_sub-number : goal.overflow_sub-number
 overflow_sub-number c =
@@ -45,5 +46,5 @@ returns c n =
     let at_site = is_at_site c.args.site c.args.outline.now n in
     c.loop-number.invariant n
     ∙ ap (λ v. has n c.args.numbers.now.items || (v && at_site))
-    (ap (has n) (all_taken numbers c.loop-number.number-index c.loop-number-test.false) ∙ c.freezes_on-number-items.ensures n)
+    (ap (has n) (take_past numbers c.loop-number.number-index c.loop-number-test.false) ∙ c.freezes_on-number-items.ensures n)
     ∙ ap (λ v. has n c.args.numbers.now.items || v) (freezes_at_site c.args.object c.args.site c.args.outline.now n)

@@ -2,7 +2,7 @@
 use Rattle.std.proofs.Common.{ℕ, ◌<◌, List, subst, arith}
 use Rattle.std.specs.List.{All}
 use Rattle.std.proofs.lemmas.List.Elements.{All-more, All-weaker}
-use Rattle.homeo_effect.proofs.WrittenDeltas.{all_taken}
+use Rattle.homeo_lemmas.proofs.Lists.{take_past}
 use Rattle.homeo_effect.proofs.uses.mark_count.Goals as goal
 
 pub loop-number-preserved : goal.loop-number-preserved
@@ -20,4 +20,4 @@ loop-number-preserved c =
 pub returns-clause-above : goal.returns-clause-above
 returns-clause-above c =
     subst (λ (ns : List ℕ). All (λ n. n < c.loop-number.count) ns)
-    (all_taken c.args.numbers.now c.loop-number.number-index c.loop-number-test.false) c.loop-number.invariant.above
+    (take_past c.args.numbers.now c.loop-number.number-index c.loop-number-test.false) c.loop-number.invariant.above
