@@ -4,6 +4,7 @@ use Rattle.homeo_plan.specs.Key.{definitions as plan_definitions}
 use Rattle.homeo_history.specs.Key.{definitions}
 use Rattle.std.proofs.Common.{◌≡◌, ℕ, List, map, ℤ, Option, Some, None, refl, sym, ap, ◌∙◌, subst}
 use Rattle.std.specs.Option.{option_and_then, option_map}
+use Rattle.std.proofs.lemmas.Option.{same_Some}
 use Rattle.homeo_syntax.specs.Source as s
 use Rattle.homeo_meaning.specs.declared.call.CallId.{CallId}
 use Rattle.homeo_meaning.specs.Bounds.{AllWithin, IsWithin}
@@ -83,7 +84,4 @@ unfolding definitions meaning_definitions plan_definitions
 site_is w id i c =
     let n = known w id c.exists in
     let here : site_of w id ≡ Some (nat_of n.client.site.value) = ap (option_map (λ (client : s.Client). nat_of client.site.value)) n.found in
-    ap (λ (g : PlannedCall). g.site) (planned_is w id n) ∙ some_is _ _ (sym here ∙ c.at_site)
-  where
-    some_is : (a b : ℕ) → Some a ≡ Some b → a ≡ b
-    some_is a b e = cc
+    ap (λ (g : PlannedCall). g.site) (planned_is w id n) ∙ same_Some _ _ (sym here ∙ c.at_site)

@@ -4,7 +4,7 @@ use Rattle.std.specs.Prelude.{All, slice_get, option_map, IfSome}
 use Rattle.std.specs.Option.{option_to_list}
 use Rattle.std.proofs.lemmas.List.{append-nil}
 use Rattle.std.proofs.lemmas.List.Elements.{All-nil, All-cons, All-head, All-tail, All-append, All-map}
-use Rattle.std.proofs.lemmas.Bool.Decides.{nat_tests}
+use Rattle.std.proofs.lemmas.Bool.{eqb-true}
 use Rattle.homeo_syntax.specs.Source as s
 use Rattle.homeo_history.specs.Key.{definitions}
 use Rattle.homeo_meaning.specs.declared.call.CallId.{CallId}
@@ -13,9 +13,6 @@ use Rattle.homeo_history.specs.Merge.{segment_of}
 use Rattle.homeo_history.specs.Legal.{site_of, IsCallAt, IsClientAt}
 use Rattle.homeo_history.specs.Answers.{Answer, local_answer, closing_answer, local_answers, answers_of_round, answers_of, answers_to}
 use Rattle.homeo_history.proofs.AnswerLists.{answers_to_more}
-
-pub same_client : (m n : ℕ) → eqb m n ≡ true → m ≡ n
-same_client m n e = grind (arith, nat_tests)
 
 pub client_at : (w : s.Workload) (call : CallId) (site : ℕ) → site_of w call ≡ Some site → IsClientAt w site call.client
 unfolding definitions
@@ -34,7 +31,7 @@ pub none_to : (client : ℕ) (answers : List Answer) → All (λ a. a.client ≡
 unfolding definitions
 none_to client [] never = refl
 none_to client (a ∷ answers) never =
-    not_kept (eqb a.client client) a (answers_to client answers) (λ e. All-head (λ (x : Answer). x.client ≡ client → ⊥) a answers never (same_client a.client client e)) (none_to client answers (All-tail (λ (x : Answer). x.client ≡ client → ⊥) a answers never))
+    not_kept (eqb a.client client) a (answers_to client answers) (λ e. All-head (λ (x : Answer). x.client ≡ client → ⊥) a answers never (eqb-true a.client client e)) (none_to client answers (All-tail (λ (x : Answer). x.client ≡ client → ⊥) a answers never))
 
 -- each call of these is at its site
 abbrev pub AreFrom : s.Workload → ℕ → List (List Entry) → Type 0
@@ -50,7 +47,7 @@ elsewhere w client round site [] at never = refl
 elsewhere w client round site (e ∷ es) at never =
     let here : IsClientAt w site e.call.client = client_at w e.call site (All-head (λ (x : Entry). IsCallAt w site x.call) e es at).at_site in
     let rest : answers_to client (map (local_answer round site) es) ≡ [] = elsewhere w client round site es (All-tail (λ (x : Entry). IsCallAt w site x.call) e es at) never in
-    not_kept (eqb e.call.client client) (local_answer round site e) (answers_to client (map (local_answer round site) es)) (λ t. never (subst (IsClientAt w site) (same_client e.call.client client t) here)) rest
+    not_kept (eqb e.call.client client) (local_answer round site e) (answers_to client (map (local_answer round site) es)) (λ t. never (subst (IsClientAt w site) (eqb-true e.call.client client t) here)) rest
 
 -- from the sites from k on, where the client is at none of them
 none_from : (w : s.Workload) (client round k : ℕ) (segments : List (List Entry)) → AreFrom w k segments → ((site : ℕ) → k ≤ site → IsClientAt w site client → ⊥) → answers_to client (local_answers round k segments) ≡ []

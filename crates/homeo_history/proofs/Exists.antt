@@ -5,6 +5,9 @@ use Rattle.std.specs.List.{range_with_len}
 use Rattle.std.specs.Option.{option_and_then, option_map_or}
 use Rattle.std.proofs.lemmas.List.FromFn.{get_or-range_with_len}
 use Rattle.std.proofs.lemmas.List.Elements.{All-filter, filter_passes, All-weaker}
+use Rattle.std.proofs.lemmas.Option.{slice_get_within}
+use Rattle.std.proofs.lemmas.Bool.{eqb-true}
+use Rattle.homeo_lemmas.proofs.Places.{place_some, All-get}
 use Rattle.homeo_syntax.specs.Source as s
 use Rattle.homeo_meaning.specs.Key.{definitions as meaning_definitions}
 use Rattle.homeo_history.specs.Key.{definitions}
@@ -15,13 +18,13 @@ use Rattle.homeo_history.specs.Merge.{segment_of}
 use Rattle.homeo_history.specs.Legal.{call_count, IsCallAt, IsAtSites, IsClientAt}
 use Rattle.homeo_meaning.specs.Serial.{numbered}
 use Rattle.homeo_history.specs.Answers.{Answer, local_answer, closing_answer, answers_of, answers_to}
-use Rattle.homeo_history.proofs.Lists.{get_lt, get_some, All-get}
-use Rattle.homeo_history.proofs.ClientAnswers.{same_client, client_at, none_to, all_of_round, all_answers}
+use Rattle.homeo_history.proofs.Lists.{get_some}
+use Rattle.homeo_history.proofs.ClientAnswers.{client_at, none_to, all_of_round, all_answers}
 
 -- ---- clients
 site_some : {X : Type 0} (f : X → ℕ) (xs : List X) (i site : ℕ) (o : Option X) → slice_get xs i ≡ o → option_map f o ≡ Some site → i < length xs
 site_some f xs i site None e h = absurd (cc)
-site_some f xs i site (Some x) e h = get_lt xs i x e
+site_some f xs i site (Some x) e h = slice_get_within xs i x e
 
 pub client_lt : (w : s.Workload) (site client : ℕ) → IsClientAt w site client → client < length w.clients
 unfolding definitions
@@ -36,7 +39,7 @@ has_site w client lt =
 -- ---- calls
 place_lt : {X : Type 0} (xs : List X) (i : ℕ) (o : Option X) → slice_get xs i ≡ o → IsSome o → i < length xs
 place_lt xs i None e h = absurd (cc)
-place_lt xs i (Some x) e h = get_lt xs i x e
+place_lt xs i (Some x) e h = slice_get_within xs i x e
 
 number_le : (calls : List s.Call) (seq : ℕ) → IsSome (numbered seq calls) → seq ≤ length calls
 number_le calls zero h = omega arith
@@ -51,11 +54,6 @@ unfolding meaning_definitions definitions
 seq_le w call h = count_le (slice_get w.clients call.client) call.seq h
 
 -- ---- and each number from 1 to that count is a call's
-place_some : {X : Type 0} (xs : List X) (i : ℕ) → i < length xs → IsSome (slice_get xs i)
-place_some [] i lt = let never : ⊥ = omega arith in absurd never
-place_some (x ∷ xs) zero lt = refl
-place_some (x ∷ xs) (suc i) lt = place_some xs i (omega arith)
-
 number_some : (calls : List s.Call) (seq : ℕ) → 0 < seq → seq ≤ length calls → IsSome (numbered seq calls)
 number_some calls zero lt le = let never : ⊥ = omega arith in absurd never
 number_some calls (suc n) lt le = place_some calls n (omega arith)
@@ -111,4 +109,4 @@ bound_of n (a ∷ answers) e all =
 pub count_bound : (w : s.Workload) (client : ℕ) (answers : List Answer) → All (Exists w) answers → map (λ a. a.seq) (answers_to client answers) ≡ range_with_len 1 (length (answers_to client answers)) → length (answers_to client answers) ≤ call_count w client
 unfolding definitions
 count_bound w client answers all e =
-    bound_of (call_count w client) (answers_to client answers) e (λ k d lt. subst (λ c. (get_or (answers_to client answers) k d).seq ≤ call_count w c) (same_client _ _ (filter_passes (λ (a : Answer). eqb a.client client) answers k d lt)) (All-filter (λ (a : Answer). eqb a.client client) (Exists w) answers all k d lt).number)
+    bound_of (call_count w client) (answers_to client answers) e (λ k d lt. subst (λ c. (get_or (answers_to client answers) k d).seq ≤ call_count w c) (eqb-true _ _ (filter_passes (λ (a : Answer). eqb a.client client) answers k d lt)) (All-filter (λ (a : Answer). eqb a.client client) (Exists w) answers all k d lt).number)

@@ -1,8 +1,9 @@
 -- A list of calls is followed by one legal history from a database.
 use Rattle.homeo_history.specs.Key.{definitions}
-use Rattle.std.proofs.Common.{◌≡◌, ⊎_elim, ℕ, suc, List, [], ◌∷◌, length, Option, Some, ℤ, refl, sym, ap, ap₂, ◌∙◌, subst, arith}
-use Rattle.std.specs.Prelude.{All, IfSome, unwrap_or}
+use Rattle.std.proofs.Common.{◌≡◌, ⊎_elim, ℕ, suc, List, [], ◌∷◌, length, Some, ℤ, refl, sym, ap, ap₂, ◌∙◌, subst, arith}
+use Rattle.std.specs.Prelude.{All, unwrap_or}
 use Rattle.std.proofs.lemmas.List.Elements.{All-head, All-tail}
+use Rattle.homeo_lemmas.proofs.Options.{if_some}
 use Rattle.homeo_syntax.specs.Source as s
 use Rattle.homeo_meaning.specs.declared.call.CallId.{CallId}
 use Rattle.homeo_meaning.specs.Serial.{Outcome, call_outcome, serial}
@@ -54,9 +55,6 @@ good_one w r rounds last g =
     }
 
 -- ---- one round
-if_some : {X : Type 0} (P : X → Type 0) (o : Option X) (x : X) → IfSome o P → o ≡ Some x → P x
-if_some P o x h e = subst (λ q. IfSome q P) e h
-
 not_broken : (w : s.Workload) (r : Round) (c : Closing) → Breaks w r c → Treaty (template_at w r.base) (policy w r.base) c.site (deltas_after w r.base c.entry.call (site_end w r c.site)) → ⊥
 unfolding definitions
 not_broken w r c b t =

@@ -1,9 +1,11 @@
 -- Legal rounds with one list of calls and one shape are equal.
-use Rattle.std.proofs.Common.{◌≡◌, ℕ, Bool, true, false, List, [], ◌∷◌, ◌++◌, map, length, flat_map, Option, Some, None, is_some, ℤ, append_assoc, refl, sym, ap, ap₂, ◌∙◌}
+use Rattle.std.proofs.Common.{◌≡◌, ℕ, Bool, List, [], ◌∷◌, ◌++◌, map, length, flat_map, Option, Some, None, is_some, ℤ, append_assoc, refl, sym, ap, ap₂, ◌∙◌, true≢false}
 use Rattle.std.specs.Prelude.{All, IfSome, option_map}
 use Rattle.std.specs.Option.{option_to_list}
 use Rattle.std.proofs.lemmas.List.{map-append}
 use Rattle.std.proofs.lemmas.List.Elements.{All-head, All-tail}
+use Rattle.std.proofs.lemmas.Option.{same_Some}
+use Rattle.homeo_lemmas.proofs.Lists.{cons_head, cons_tail, not_nil}
 use Rattle.homeo_syntax.specs.Source as s
 use Rattle.homeo_meaning.specs.declared.call.CallId.{CallId}
 use Rattle.homeo_meaning.specs.Serial.{Outcome, call_outcome}
@@ -14,15 +16,8 @@ use Rattle.homeo_plan.specs.Local.{no_deltas}
 use Rattle.homeo_history.specs.Merge.{segment_of}
 use Rattle.homeo_history.specs.Replayed.{deltas_after, end_of, finding_at, IsReplayed}
 use Rattle.homeo_history.specs.Legal.{site_of, IsCallAt, IsAtSites, entries_of, calls_of, ClosesWith, base_or, AreSerial}
-use Rattle.homeo_history.proofs.Lists.{cons_head, cons_tail, not_nil}
 use Rattle.homeo_history.proofs.Choices.{flat}
 use Rattle.homeo_history.proofs.Runs.{cut_lengths, sizes, flat_length, call_list, calls_length, run_same}
-
-some_is : {X : Type 0} (x y : X) → Some x ≡ Some y → x ≡ y
-some_is x y e = cc
-
-not_equal : true ≡ false → ⊥
-not_equal e = cc
 
 -- ---- closing calls
 abbrev pub closing_calls : Option Closing → List CallId
@@ -30,8 +25,8 @@ closing_calls c = call_list (option_to_list (option_map (λ (c : Closing). c.ent
 
 closing_length : (c d : Option Closing) → is_some c ≡ is_some d → length (closing_calls c) ≡ length (closing_calls d)
 closing_length None None e = refl
-closing_length None (Some d) e = absurd (not_equal (sym e))
-closing_length (Some c) None e = absurd (not_equal e)
+closing_length None (Some d) e = absurd (true≢false (sym e))
+closing_length (Some c) None e = absurd (true≢false e)
 closing_length (Some c) (Some d) e = refl
 
 abbrev IsAtSite : s.Workload → Option Closing → Type 0
@@ -56,17 +51,17 @@ closing_same :
     (c ≡ d) × (next ≡ other)
 unfolding definitions
 closing_same w base base' segs segs' a b next other None None eb es e m n p q f g i calls = (refl, m ∙ e ∙ sym n)
-closing_same w base base' segs segs' a b next other None (Some d) eb es e m n p q f g i calls = absurd (not_equal (sym i))
-closing_same w base base' segs segs' a b next other (Some c) None eb es e m n p q f g i calls = absurd (not_equal i)
+closing_same w base base' segs segs' a b next other None (Some d) eb es e m n p q f g i calls = absurd (true≢false (sym i))
+closing_same w base base' segs segs' a b next other (Some c) None eb es e m n p q f g i calls = absurd (true≢false i)
 closing_same w base base' segs segs' a b next other (Some c) (Some d) eb es e m n p q f g i calls =
     let call : c.entry.call ≡ d.entry.call = cons_head c.entry.call d.entry.call [] [] calls in
     let left : Outcome = record { prints = c.entry.prints; database = next } in
     let right : Outcome = record { prints = d.entry.prints; database = other } in
     let outcome : left ≡ right = sym m ∙ ap₂ (call_outcome w) call e ∙ n in
-    let site : c.site ≡ d.site = some_is c.site d.site (sym p.at_site ∙ ap (site_of w) call ∙ q.at_site) in
+    let site : c.site ≡ d.site = same_Some c.site d.site (sym p.at_site ∙ ap (site_of w) call ∙ q.at_site) in
     let prints : c.entry.prints ≡ d.entry.prints = ap (λ (o : Outcome). o.prints) outcome in
     let one : found w base segs c.site c.entry.call ≡ found w base' segs' d.site d.entry.call = λ j. found w (eb j) (es j) (site j) (call j) in
-    let broken : c.broken ≡ d.broken = some_is c.broken d.broken (sym f ∙ one ∙ g) in (
+    let broken : c.broken ≡ d.broken = same_Some c.broken d.broken (sym f ∙ one ∙ g) in (
       (λ j. Some (record { site = site j; entry = record { call = call j; prints = prints j }; broken = broken j })),
       ap (λ (o : Outcome). o.database) outcome,
     )

@@ -1,13 +1,13 @@
 -- Two rounds from one base with the same calls, as many at each site, have the same entries and leave one database.
 use Rattle.std.proofs.Common.{◌≡◌, ℕ, List, [], ◌∷◌, ◌++◌, map, length, ℤ, length-append, refl, sym, ap, ap₂, ◌∙◌, subst, arith}
 use Rattle.std.proofs.lemmas.List.{length-map}
+use Rattle.homeo_lemmas.proofs.Lists.{cons_head, cons_tail, not_nil}
 use Rattle.homeo_syntax.specs.Source as s
 use Rattle.homeo_meaning.specs.declared.call.CallId.{CallId}
 use Rattle.homeo_meaning.specs.Serial.{serial}
 use Rattle.homeo_history.specs.Key.{definitions}
 use Rattle.homeo_history.specs.History.{Entry, Round}
 use Rattle.homeo_history.specs.Legal.{HasMerges}
-use Rattle.homeo_history.proofs.Lists.{cons_head, cons_tail, not_nil}
 use Rattle.homeo_history.proofs.Choices.{sites_from, flat, merged_flat, flat_fits}
 
 -- ---- lists

@@ -4,9 +4,9 @@ use Rattle.std.specs.Prelude.{All, IfSome, slice_get, slice_index_or, Contains, 
 use Rattle.std.specs.Option.{option_to_list}
 use Rattle.std.specs.List.{range_with_len}
 use Rattle.std.proofs.lemmas.List.{get_or_default, length-map}
-use Rattle.std.proofs.lemmas.List.FromFn.{get_or-range_with_len}
+use Rattle.std.proofs.lemmas.List.FromFn.{get_or-range_with_len, length-range_with_len}
 use Rattle.std.proofs.lemmas.List.Elements.{All-nil, All-cons, All-weaker, All-contains, All-contains_itself, All-same, All-filter, filter_passes, Contains-get_or, Contains-append_left, Contains-append_right}
-use Rattle.std.proofs.lemmas.Bool.Decides.{nat_tests}
+use Rattle.std.proofs.lemmas.Bool.{eq-eqb, eqb-true}
 use Rattle.homeo_history.specs.Key.{definitions}
 use Rattle.homeo_meaning.specs.declared.call.CallId.{CallId}
 use Rattle.homeo_history.specs.History.{Entry, Closing, Round}
@@ -15,7 +15,7 @@ use Rattle.homeo_plan.specs.declared.treaty.Broken.{Broken}
 use Rattle.homeo_history.specs.declared.answer.Path.{Path}
 use Rattle.homeo_history.specs.Answers.{Answer, called, local_answer, closing_answer, local_answers, answers_of_round, answers_of, answers_to, answered_entry, IsAnswerMade, IsAnswerIn}
 use Rattle.homeo_history.specs.declared.answer.Path.TheVariants.{Local, Cleanup}
-use Rattle.homeo_history.proofs.ClientAnswers.{same_client, all_of_round, all_answers}
+use Rattle.homeo_history.proofs.ClientAnswers.{all_of_round, all_answers}
 use Rattle.homeo_history.specs.Legal.{numbers_of}
 use Rattle.homeo_history.specs.Laws.{AnswersStand}
 use Rattle.homeo_history.proofs.AnswerLists.{called_all, numbers_called}
@@ -76,10 +76,7 @@ in_own : (client : ℕ) (xs : List Answer) → All (λ x. x.client ≡ client �
 unfolding definitions
 in_own client [] = All-nil (λ (x : Answer). x.client ≡ client → Contains [] x)
 in_own client (x ∷ xs) =
-    All-cons (λ (y : Answer). y.client ≡ client → Contains (answers_to client (x ∷ xs)) y) x xs (λ e. head_in (eqb x.client client) x (answers_to client xs) (tested x.client client e)) (All-weaker (λ (y : Answer). y.client ≡ client → Contains (answers_to client xs) y) (λ (y : Answer). y.client ≡ client → Contains (answers_to client (x ∷ xs)) y) (λ y h e. later (eqb x.client client) x y (answers_to client xs) (h e)) xs (in_own client xs))
-  where
-    tested : (m n : ℕ) → m ≡ n → eqb m n ≡ true
-    tested m n e = grind (arith, nat_tests)
+    All-cons (λ (y : Answer). y.client ≡ client → Contains (answers_to client (x ∷ xs)) y) x xs (λ e. head_in (eqb x.client client) x (answers_to client xs) (eq-eqb x.client client e)) (All-weaker (λ (y : Answer). y.client ≡ client → Contains (answers_to client xs) y) (λ (y : Answer). y.client ≡ client → Contains (answers_to client (x ∷ xs)) y) (λ y h e. later (eqb x.client client) x y (answers_to client xs) (h e)) xs (in_own client xs))
 
 -- ---- among numbered answers none stands twice
 one_of : (log : List Answer) → map (λ a. a.seq) log ≡ range_with_len 1 (length log) → (a b : Answer) → Contains log a → Contains log b → a.seq ≡ b.seq → a ≡ b
@@ -119,15 +116,11 @@ module _ (client : ℕ) (rounds : List Round) (log : List Answer) (is : log ≡ 
   pub each_is : All (IsAnswerIn rounds) log
   unfolding definitions
   each_is =
-      let to : All (λ a. a.client ≡ client) log = All-same (λ (a : Answer). a.client ≡ client) log (answers_to client (answers_of 0 rounds)) is (λ k d lt. same_client _ _ (filter_passes (λ (a : Answer). eqb a.client client) (answers_of 0 rounds) k d lt)) in
+      let to : All (λ a. a.client ≡ client) log = All-same (λ (a : Answer). a.client ≡ client) log (answers_to client (answers_of 0 rounds)) is (λ k d lt. eqb-true _ _ (filter_passes (λ (a : Answer). eqb a.client client) (answers_of 0 rounds) k d lt)) in
       let stood : All (Stands rounds) log = All-same (Stands rounds) log (answers_to client (answers_of 0 rounds)) is (All-filter _ (Stands rounds) (answers_of 0 rounds) (all_stand rounds)) in
       λ k d lt. is_answer (get_or log k d) (Contains-get_or log k d lt) (to k d lt) (stood k d lt)
 
 -- ---- of a legal history
-range_length : (a n : ℕ) → length (range_with_len a n) ≡ n
-range_length a zero = refl
-range_length a (suc n) = ap suc (range_length (a + 1) n)
-
 pub answers_stand : AnswersStand
 unfolding definitions
 answers_stand w start counts h client legal =
@@ -136,7 +129,7 @@ answers_stand w start counts h client legal =
     let numbers : map (λ (a : Answer). a.seq) log ≡ range_with_len 1 count =
     sym (numbers_called client (answers_of 0 h.rounds)) ∙ ap (numbers_of client) (called_all 0 h.rounds)
     ∙ legal.in_order.numbers client in
-    let many : length log ≡ count = sym (length-map log (λ (a : Answer). a.seq)) ∙ ap length numbers ∙ range_length 1 count in
+    let many : length log ≡ count = sym (length-map log (λ (a : Answer). a.seq)) ∙ ap length numbers ∙ length-range_with_len 1 count in
     record {
       numbers = numbers;
       each = each_is client h.rounds log refl (numbers ∙ ap (range_with_len 1) (sym many));

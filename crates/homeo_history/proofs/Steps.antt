@@ -5,12 +5,12 @@ use Rattle.std.specs.Prelude.{sum, IsSome}
 use Rattle.std.specs.Option.{option_map, option_to_list}
 use Rattle.std.proofs.lemmas.List.Sums.{sum_by-cons}
 use Rattle.std.proofs.lemmas.Bool.Decides.{nat_tests}
+use Rattle.homeo_lemmas.proofs.Lists.{cons_head, cons_tail, not_nil}
 use Rattle.homeo_syntax.specs.Source as s
 use Rattle.homeo_meaning.specs.declared.call.CallId.{CallId}
 use Rattle.homeo_history.specs.History.{Entry, Closing, Round}
 use Rattle.homeo_history.specs.Merge.{segment_of, put_at, merge}
 use Rattle.homeo_history.specs.Legal.{OnlyLastIsOpen}
-use Rattle.homeo_history.proofs.Lists.{cons_head, cons_tail, not_nil}
 use Rattle.homeo_history.specs.Follows.{site_or_zero, FollowsRounds}
 
 abbrev pub Segments : Type 0
