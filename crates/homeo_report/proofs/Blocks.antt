@@ -1,7 +1,8 @@
 -- The lines of rounds: which entries stand where is told by them.
 use Rattle.std.proofs.Common.{◌≡◌, ℕ, ◌+◌, Bool, true, false, List, [], ◌∷◌, ◌++◌, length, Option, Some, None, append_assoc, refl, sym, ap, ◌∙◌, subst, arith}
 use Rattle.std.specs.List.{list_all}
-use Rattle.homeo_report.proofs.Splits.{not_both, cons_head, cons_tail, not_nil, Stops, cut_same}
+use Rattle.homeo_lemmas.proofs.Lists.{cons_head, cons_tail, not_nil}
+use Rattle.homeo_report.proofs.Splits.{not_both, Stops, cut_same}
 
 -- what stands in a round's lines: those of the entries of each site, and the closing lines, a heading and an entry
 pub record Block : Type 0 where

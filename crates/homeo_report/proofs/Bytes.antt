@@ -3,7 +3,10 @@ use Rattle.std.proofs.Common.{◌≡◌, ℕ, zero, suc, ◌+◌, ◌/◌, ◌%�
 use Rattle.std.specs.Fmt.{signed_decimal, digits, digits_onto, digit_glyph}
 use Rattle.std.specs.List.{list_all}
 use Rattle.std.proofs.lemmas.Bool.Decides.{nat_tests}
-use Rattle.homeo_report.proofs.Splits.{and_both, and_first, and_second, not_both, cons_tail, cut_same}
+use Rattle.std.proofs.lemmas.Bool.{and_from}
+use Rattle.homeo_lemmas.proofs.Bools.{and_first, and_second}
+use Rattle.homeo_lemmas.proofs.Lists.{cons_tail}
+use Rattle.homeo_report.proofs.Splits.{not_both, cut_same}
 
 -- not this byte
 abbrev pub is_not : ℕ → ℕ → Bool
@@ -47,7 +50,7 @@ module _ (p : List ℕ → Bool) (a b r s : List ℕ) (la : IsLine a) (lb : IsLi
 onto_all : (p : ℕ → Bool) → ((d : ℕ) → d < 10 → p (digit_glyph false d) ≡ true) → (k n : ℕ) (acc : List ℕ) → list_all p acc ≡ true → list_all p (digits_onto k 10 false n acc) ≡ true
 onto_all p f zero n acc a = a
 onto_all p f (suc k) n acc a =
-    let here : list_all p (digit_glyph false (n % 10) ∷ acc) ≡ true = and_both (p (digit_glyph false (n % 10))) (list_all p acc) (f (n % 10) (omega (arith, mod-lt n {m = 10} (omega arith)))) a in
+    let here : list_all p (digit_glyph false (n % 10) ∷ acc) ≡ true = and_from (p (digit_glyph false (n % 10))) (list_all p acc) (f (n % 10) (omega (arith, mod-lt n {m = 10} (omega arith)))) a in
     by (n / 10 == 0) (digit_glyph false (n % 10) ∷ acc) (digits_onto k 10 false (n / 10) (digit_glyph false (n % 10) ∷ acc)) here (onto_all p f k (n / 10) (digit_glyph false (n % 10) ∷ acc) here)
   where
     by : (b : Bool) (xs ys : List ℕ) → list_all p xs ≡ true → list_all p ys ≡ true → list_all p (cond b xs ys) ≡ true
@@ -60,7 +63,7 @@ decimal_all p f n = onto_all p f 64 n [] refl
 
 pub signed_all : (p : ℕ → Bool) → ((d : ℕ) → d < 10 → p (digit_glyph false d) ≡ true) → p 45 ≡ true → (z : ℤ) → list_all p (signed_decimal z) ≡ true
 signed_all p f m (pos n) = decimal_all p f n
-signed_all p f m (negsuc n) = and_both (p 45) (list_all p (decimal (suc n))) m (decimal_all p f (suc n))
+signed_all p f m (negsuc n) = and_from (p 45) (list_all p (decimal (suc n))) m (decimal_all p f (suc n))
 
 -- a digit is no byte but these ten
 pub digit_is_not : (d b : ℕ) → d < 10 → 48 + d ≢ b → is_not b (digit_glyph false d) ≡ true

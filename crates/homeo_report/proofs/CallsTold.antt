@@ -4,6 +4,7 @@ use Rattle.std.specs.Prelude.{All, filter, slice_index_or, IfSome, option_map}
 use Rattle.std.specs.Option.{option_to_list, option_map_or}
 use Rattle.std.proofs.lemmas.List.Elements.{All-nil, All-cons, All-head, All-tail, All-append, All-weaker}
 use Rattle.std.proofs.lemmas.Bool.Decides.{nat_tests}
+use Rattle.homeo_lemmas.proofs.Lists.{cons_head, cons_tail, not_nil}
 use Rattle.homeo_syntax.specs.Source as s
 use Rattle.homeo_meaning.specs.Schema.{nat_of}
 use Rattle.homeo_meaning.specs.declared.call.CallId.{CallId}
@@ -14,7 +15,6 @@ use Rattle.homeo_report.specs.Key.{definitions}
 use Rattle.homeo_print.specs.Key.{definitions as print_definitions}
 use Rattle.homeo_print.specs.Names.{name_text}
 use Rattle.homeo_report.specs.Report.{client_text}
-use Rattle.homeo_report.proofs.Splits.{cons_head, cons_tail, not_nil}
 use Rattle.homeo_history.proofs.Choices.{flat}
 
 -- two clients with one name are one

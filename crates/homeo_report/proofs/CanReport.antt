@@ -1,23 +1,17 @@
 -- A history whose last database is within bounds can be reported: it has a value for each object.
 use Rattle.std.proofs.Common.{◌≡◌, ℕ, zero, suc, List, [], ◌∷◌, map, length, length-append, add-one, refl, sym, ap, ◌∙◌, arith}
-use Rattle.std.specs.Prelude.{ℤ}
 use Rattle.std.specs.List.{flat_map}
 use Rattle.std.proofs.lemmas.List.{length-map}
 use Rattle.homeo_syntax.specs.Source as s
 use Rattle.homeo_meaning.specs.Key.{definitions as meaning_definitions}
 use Rattle.homeo_meaning.specs.Schema.{Declared, declared_object, declared_range, declared_relation, nat_of, schema_of}
-use Rattle.homeo_meaning.specs.Bounds.{Bounds, bounds_of, slot_bounds, relation_bounds, all_bounds, AreIn, IsWithin}
+use Rattle.homeo_meaning.specs.Bounds.{bounds_of, slot_bounds, relation_bounds, all_bounds, IsWithin}
+use Rattle.homeo_meaning.proofs.Within.{length_in}
 use Rattle.homeo_history.specs.History.{History}
 use Rattle.homeo_print.specs.Key.{definitions as print_definitions}
 use Rattle.homeo_print.specs.Names.{declared_names, slot_names, relation_names, object_names}
 use Rattle.homeo_print.proofs.NamedObjects.{first_names, first_names_more, length_slot_names, relation_names_are, length_declared}
 use Rattle.homeo_report.specs.Report.{CanReport}
-
-length_within : (bounds : List Bounds) (values : List ℤ) → AreIn bounds values → length values ≡ length bounds
-length_within [] [] h = refl
-length_within [] (v ∷ values) h = absurd h
-length_within (b ∷ bounds) [] h = absurd h
-length_within (b ∷ bounds) (v ∷ values) h = ap suc (length_within bounds values h.1)
 
 slots_alike : (w : s.Workload) (r : s.RelationDecl) (n : ℕ) → length (slot_bounds n (map declared_range r.fields)) ≡ length (first_names w r n)
 unfolding meaning_definitions
@@ -65,4 +59,4 @@ length_object_bounds w =
 
 pub can_report : (w : s.Workload) (h : History) → IsWithin (schema_of w) h.last → CanReport w h
 unfolding meaning_definitions
-can_report w h within = record { values = length_within (all_bounds (schema_of w)) h.last within ∙ length_object_bounds w }
+can_report w h within = record { values = length_in (all_bounds (schema_of w)) h.last within ∙ length_object_bounds w }

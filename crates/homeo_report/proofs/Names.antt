@@ -3,7 +3,7 @@ use Rattle.std.proofs.Common.{◌≡◌, ◌≢◌, ℕ, zero, suc, ◌+◌, ◌
 use Rattle.std.specs.Prelude.{unwrap_or, option_map}
 use Rattle.std.specs.List.{list_all}
 use Rattle.std.proofs.lemmas.List.{map-append, length-map, get_or-append-add}
-use Rattle.std.proofs.lemmas.Option.{get_or_from_slice_get, slice_get-map, slice_get_within, unwrap_or-slice_get}
+use Rattle.std.proofs.lemmas.Option.{get_or_from_slice_get, slice_get-map, slice_get_within, unwrap_or-slice_get, same_Some}
 use Rattle.std.proofs.lemmas.Bool.Decides.{nat_tests}
 use Rattle.homeo_syntax.specs.Key.{definitions as syntax_definitions}
 use Rattle.homeo_syntax.specs.Source as s
@@ -23,9 +23,6 @@ use Rattle.homeo_report.proofs.Splits.{all_weaker}
 use Rattle.homeo_report.proofs.Bytes.{is_not}
 use Rattle.homeo_report.proofs.Lines.{HasPlainNames}
 use Rattle.homeo_report.proofs.CallsTold.{HasDistinctClients}
-
-some_is : {X : Type 0} (x y : X) → Some x ≡ Some y → x ≡ y
-some_is x y e = cc
 
 -- ---- bytes of names
 word_no_newline : (b : ℕ) → is_word b ≡ true → is_not 10 b ≡ true
@@ -97,7 +94,7 @@ client_place w i c found =
 each_at : {A : Type 0} (P : A → Type 0) (xs : List A) (i : ℕ) (x : A) → Each P xs → slice_get xs i ≡ Some x → P x
 unfolding syntax_definitions
 each_at P [] i x h e = cc
-each_at P (y ∷ xs) zero x h e = subst P (some_is y x e) h.0
+each_at P (y ∷ xs) zero x h e = subst P (same_Some y x e) h.0
 each_at P (y ∷ xs) (suc i) x h e = each_at P xs i x h.1 e
 
 pub distinct_clients : (w : s.Workload) → IsWellFormed w → AllPairs (λ m n. m ≢ n) (global_numbers (global_names w)) → HasDistinctClients w

@@ -2,6 +2,7 @@
 use Rattle.std.proofs.Common.{◌≡◌, ℕ, List, [], ◌∷◌, map, length, flat_map, Some, ℤ, sym, ◌∙◌}
 use Rattle.std.specs.Prelude.{All}
 use Rattle.std.proofs.lemmas.List.Elements.{All-map}
+use Rattle.std.proofs.lemmas.Option.{same_Some}
 use Rattle.homeo_syntax.specs.Source as s
 use Rattle.homeo_meaning.specs.Initial.{initial}
 use Rattle.homeo_history.specs.Key.{definitions as history_definitions}
@@ -15,13 +16,10 @@ use Rattle.homeo_history.proofs.RoundsTold.{SameRounds, rounds_same}
 use Rattle.homeo_report.proofs.CallsTold.{HasDistinctClients, IsOfClient, calls_same, rounds_of_clients}
 use Rattle.homeo_report.proofs.Reports.{blocks_told, shapes_told, clients_told}
 
-some_is : {X : Type 0} (x y : X) → Some x ≡ Some y → x ≡ y
-some_is x y e = cc
-
 base_first : (w : s.Workload) (rounds : List Round) (last : List ℤ) → first_base rounds ≡ Some (initial w) → base_or rounds last ≡ initial w
 unfolding history_definitions
 base_first w [] last e = cc
-base_first w (r ∷ rounds) last e = some_is r.base (initial w) e
+base_first w (r ∷ rounds) last e = same_Some r.base (initial w) e
 
 calls_of_clients : (w : s.Workload) (counts : List ℕ) (h : History) → IsLegal w counts h → All (IsOfClient w) (calls_of h.rounds)
 unfolding history_definitions

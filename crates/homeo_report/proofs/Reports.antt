@@ -3,6 +3,7 @@ use Rattle.std.proofs.Common.{◌≡◌, ℕ, List, [], ◌∷◌, ◌++◌, map
 use Rattle.std.specs.Prelude.{All, option_map}
 use Rattle.std.specs.Option.{option_to_list}
 use Rattle.std.proofs.lemmas.List.{map-append, length-map}
+use Rattle.homeo_lemmas.proofs.Lists.{cons_head, cons_tail, not_nil}
 use Rattle.homeo_syntax.specs.Source as s
 use Rattle.homeo_history.specs.Key.{definitions as history_definitions}
 use Rattle.homeo_history.specs.History as h
@@ -12,7 +13,6 @@ use Rattle.homeo_report.specs.Key.{definitions}
 use Rattle.homeo_report.specs.Report.{client_text, object_lines, totals_line}
 use Rattle.homeo_history.specs.History.{Closing, Round, History}
 use Rattle.homeo_report.specs.Report.{report}
-use Rattle.homeo_report.proofs.Splits.{cons_head, cons_tail, not_nil}
 use Rattle.homeo_report.proofs.Bytes.{join, lines_same}
 use Rattle.homeo_report.proofs.Blocks.{Block, blocks_same}
 use Rattle.homeo_report.proofs.Lines.{HasPlainNames, entry_words, round_words, site_words, is_entry, has_space, is_close, no_entry_round, no_entry_site, no_close_round, client_read}

@@ -2,19 +2,20 @@
 use Rattle.std.proofs.Common.{◌≡◌, ℕ, ◌+◌, ◌<◌, List, [], ◌∷◌, ◌++◌, map, length, take, get_or, append-nil, ap, ◌∙◌}
 use Rattle.std.specs.List.{flat_map}
 use Rattle.std.proofs.lemmas.Grind.{flat_map-append}
+use Rattle.homeo_lemmas.proofs.Lists.{map_take_more}
 use Rattle.homeo_syntax.specs.Source as s
 use Rattle.homeo_history.specs.HistoryView.{plain_entry, plain_segment, plain_round}
 use Rattle.homeo_history.specs.declared.history.Entry.{Entry}
 use Rattle.homeo_history.specs.declared.history.Segment.{Segment}
 use Rattle.homeo_history.specs.declared.history.Round.{Round}
-use Rattle.homeo_print.proofs.OneMore.{views_more, numbered_more}
+use Rattle.homeo_print.proofs.OneMore.{numbered_more}
 use Rattle.homeo_report.specs.Key.{definitions}
 use Rattle.homeo_report.specs.Report.{entry_line, entries_text, segment_text, segments_text, round_text, rounds_text}
 
 pub entries_more : (w : s.Workload) (entries : List Entry) (i : ℕ) (e : Entry) → i < length entries → e ≡ get_or entries i e → entries_text w (map plain_entry (take (i + 1) entries)) ≡ entries_text w (map plain_entry (take i entries)) ++ entry_line w (plain_entry e)
 unfolding definitions
 entries_more w entries i e within is =
-    ap (flat_map (entry_line w)) (views_more plain_entry entries i e within is)
+    ap (flat_map (entry_line w)) (map_take_more plain_entry entries i e within is)
     ∙ flat_map-append (entry_line w) (map plain_entry (take i entries)) (plain_entry e ∷ [])
     ∙ ap (λ l. flat_map (entry_line w) (map plain_entry (take i entries)) ++ l) (append-nil (entry_line w (plain_entry e)))
 

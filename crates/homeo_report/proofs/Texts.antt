@@ -6,6 +6,7 @@ use Rattle.std.proofs.lemmas.List.{length-map}
 use Rattle.std.proofs.lemmas.List.Elements.{All-head, All-tail}
 use Rattle.std.proofs.lemmas.List.Folds.{flat_map-map}
 use Rattle.std.proofs.lemmas.Grind.{flat_map-append}
+use Rattle.std.proofs.lemmas.Bool.{and_from}
 use Rattle.homeo_syntax.specs.Source as s
 use Rattle.homeo_history.specs.History.{Entry}
 use Rattle.homeo_report.specs.Key.{definitions}
@@ -14,7 +15,7 @@ use Rattle.homeo_report.specs.Report.{entries_text, segment_text, segments_text}
 use Rattle.homeo_history.specs.History.{Closing, Round}
 use Rattle.homeo_plan.specs.declared.treaty.Broken.{Broken}
 use Rattle.homeo_report.specs.Report.{closing_text, round_text, rounds_text}
-use Rattle.homeo_report.proofs.Splits.{and_both, all_append}
+use Rattle.homeo_report.proofs.Splits.{all_append}
 use Rattle.homeo_report.proofs.Bytes.{is_not, AreLines, join}
 use Rattle.homeo_report.proofs.Blocks.{Block, segments_lines, closing_lines, blocks_lines, AreEntries, IsClosing, AreBlocks}
 use Rattle.homeo_report.proofs.Lines.{HasPlainNames, entry_words, closing_words, round_words, site_words, is_entry, has_space, is_close, entry_is_line, entry_is_entry, entry_has_space, round_is_line, site_is_line, round_has_space, site_has_space, closing_is_line, no_entry_closing, closing_has_space, closing_is_close}
@@ -74,18 +75,18 @@ rounds_text_join w rounds = rounds_join w 0 rounds
 module _ (w : s.Workload) (p : List ℕ → Bool) (entry : (e : Entry) → p (entry_words w e) ≡ true) where
   entries_pass : (entries : List Entry) → list_all p (map (entry_words w) entries) ≡ true
   entries_pass [] = refl
-  entries_pass (e ∷ entries) = and_both (p (entry_words w e)) (list_all p (map (entry_words w) entries)) (entry e) (entries_pass entries)
+  entries_pass (e ∷ entries) = and_from (p (entry_words w e)) (list_all p (map (entry_words w) entries)) (entry e) (entries_pass entries)
 
 module _ (w : s.Workload) (p : List ℕ → Bool) (entry : (e : Entry) → p (entry_words w e) ≡ true) (round : (n : ℕ) → p (round_words n) ≡ true) (site : (i : ℕ) → p (site_words i) ≡ true) (close : (i : ℕ) (f : Broken) → p (closing_words i f) ≡ true) where
   segments_pass : (i : ℕ) (segments : List (List Entry)) → list_all p (segments_lines site_words i (map (map (entry_words w)) segments)) ≡ true
   segments_pass i [] = refl
   segments_pass i (s ∷ segments) =
       let more : List (List ℕ) = segments_lines site_words (i + 1) (map (map (entry_words w)) segments) in
-      and_both (p (site_words i)) _ (site i) (all_append p (map (entry_words w) s) more (entries_pass w p entry s) (segments_pass (i + 1) segments))
+      and_from (p (site_words i)) _ (site i) (all_append p (map (entry_words w) s) more (entries_pass w p entry s) (segments_pass (i + 1) segments))
 
   closing_pass : (c : Option Closing) → list_all p (closing_lines (option_map (closing_pair w) c)) ≡ true
   closing_pass None = refl
-  closing_pass (Some c) = and_both (p (closing_words c.site c.broken)) _ (close c.site c.broken) (and_both (p (entry_words w c.entry)) true (entry c.entry) refl)
+  closing_pass (Some c) = and_from (p (closing_words c.site c.broken)) _ (close c.site c.broken) (and_from (p (entry_words w c.entry)) true (entry c.entry) refl)
 
   pub lines_pass : (n : ℕ) (rounds : List Round) → list_all p (lines_of w n rounds) ≡ true
   lines_pass n [] = refl
@@ -93,7 +94,7 @@ module _ (w : s.Workload) (p : List ℕ → Bool) (entry : (e : Entry) → p (en
       let segments : List (List ℕ) = segments_lines site_words 0 (map (map (entry_words w)) r.segments) in
       let closing : List (List ℕ) = closing_lines (option_map (closing_pair w) r.closing) in
       let more : List (List ℕ) = lines_of w (n + 1) rounds in
-      and_both (p (round_words n)) _ (round n) (all_append p segments (closing ++ more) (segments_pass 0 r.segments) (all_append p closing more (closing_pass r.closing) (lines_pass (n + 1) rounds)))
+      and_from (p (round_words n)) _ (round n) (all_append p segments (closing ++ more) (segments_pass 0 r.segments) (all_append p closing more (closing_pass r.closing) (lines_pass (n + 1) rounds)))
 
 pub lines_are_lines : (w : s.Workload) → HasPlainNames w → (rounds : List Round) → AreLines (lines_of w 0 rounds)
 lines_are_lines w names rounds = lines_pass w (λ l. list_all (is_not 10) l) (entry_is_line w names) round_is_line site_is_line closing_is_line 0 rounds

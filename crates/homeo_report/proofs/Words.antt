@@ -4,6 +4,7 @@ use Rattle.std.specs.Prelude.{slice_get, unwrap_or}
 use Rattle.std.specs.Fmt.{signed_decimal, digit_glyph}
 use Rattle.std.specs.List.{list_all}
 use Rattle.std.specs.Option.{option_map_or}
+use Rattle.std.proofs.lemmas.Bool.{and_from}
 use Rattle.homeo_syntax.specs.Source as s
 use Rattle.homeo_syntax.specs.declared.phrase.Ident.{Ident}
 use Rattle.homeo_meaning.specs.declared.call.CallId.{CallId}
@@ -13,7 +14,7 @@ use Rattle.homeo_print.specs.Key.{definitions as print_definitions}
 use Rattle.homeo_print.specs.Calls.{more_arguments_text, arguments_text, call_text}
 use Rattle.homeo_print.specs.Names.{name_text, numbers_text}
 use Rattle.homeo_report.specs.Report.{client_text, made_text}
-use Rattle.homeo_report.proofs.Splits.{and_both, all_append, all_flat_map}
+use Rattle.homeo_report.proofs.Splits.{all_append, all_flat_map}
 use Rattle.homeo_report.proofs.Bytes.{is_not, decimal_all, signed_all, digit_is_not}
 
 -- a test that digits and a sign pass
@@ -47,7 +48,7 @@ module _ (w : s.Workload) (p : ℕ → Bool) (n : PassesNumbers p) (names : (i :
 
   more_all : (args : List ℤ) → list_all p (more_arguments_text args) ≡ true
   unfolding definitions print_definitions
-  more_all args = all_flat_map p (λ (a : ℤ). codes ", " ++ signed_decimal a) args (λ a. all_append p (codes ", ") (signed_decimal a) (and_both (p 44) _ comma (and_both (p 32) _ space refl)) (signed a))
+  more_all args = all_flat_map p (λ (a : ℤ). codes ", " ++ signed_decimal a) args (λ a. all_append p (codes ", ") (signed_decimal a) (and_from (p 44) _ comma (and_from (p 32) _ space refl)) (signed a))
 
   arguments_all : (args : List ℤ) → list_all p (arguments_text args) ≡ true
   unfolding definitions print_definitions
@@ -59,9 +60,9 @@ module _ (w : s.Workload) (p : ℕ → Bool) (n : PassesNumbers p) (names : (i :
   call_all name args =
       all_append p (name_text w name ++ codes "(" ++ arguments_text args) (codes ")")
       (all_append p (name_text w name ++ codes "(") (arguments_text args)
-      (all_append p (name_text w name) (codes "(") (names name.name) (and_both (p 40) _ open_mark refl))
+      (all_append p (name_text w name) (codes "(") (names name.name) (and_from (p 40) _ open_mark refl))
       (arguments_all args))
-      (and_both (p 41) _ close_mark refl)
+      (and_from (p 41) _ close_mark refl)
 
   pub made_all : (id : CallId) → list_all p (made_text w id) ≡ true
   unfolding definitions print_definitions
@@ -73,4 +74,4 @@ module _ (w : s.Workload) (p : ℕ → Bool) (n : PassesNumbers p) (names : (i :
 
   pub prints_all : (prints : List ℤ) → list_all p (numbers_text prints) ≡ true
   unfolding definitions print_definitions
-  prints_all prints = all_flat_map p (λ (v : ℤ). codes " " ++ signed_decimal v) prints (λ v. and_both (p 32) _ space (signed v))
+  prints_all prints = all_flat_map p (λ (v : ℤ). codes " " ++ signed_decimal v) prints (λ v. and_from (p 32) _ space (signed v))
