@@ -1,12 +1,13 @@
 -- Where no rule is broken, the schedule runs every call of every client.
-use Rattle.std.proofs.Common.{◌≡◌, ◌<◌, ◌≤◌, ◌+◌, ◌∙◌, ◌++◌, ◌==◌, ◌||◌, ℕ, zero, suc, Bool, true, false, cond, List, [], ◌∷◌, length, map, refl, sym, ap, subst, arith, append_assoc, append-nil, length-append, ◌⊎◌, inl, inr}
+use Rattle.std.proofs.Common.{◌≡◌, ◌<◌, ◌≤◌, ◌+◌, ◌∙◌, ◌++◌, ◌==◌, ℕ, zero, suc, Bool, true, false, cond, List, [], ◌∷◌, length, map, refl, sym, ap, subst, arith, append_assoc, append-nil, length-append, ◌⊎◌, inl, inr}
 use Rattle.std.specs.Prelude.{All, Option, Some, None, slice_get, if◌then◌else◌, nat_lt}
 use Rattle.std.specs.List.{list_any}
 use Rattle.std.proofs.lemmas.List.{map-append}
 use Rattle.std.proofs.lemmas.List.Elements.{All-nil, All-cons}
 use Rattle.std.proofs.lemmas.List.Folds.{list_any-append}
-use Rattle.std.proofs.lemmas.Bool.{eqb-false}
+use Rattle.std.proofs.lemmas.Bool.{eqb-false, or_parts}
 use Rattle.std.proofs.lemmas.Bool.Decides.{Decides-eqb, nat_tests}
+use Rattle.homeo_lemmas.proofs.Naturals.{nat_itself}
 use Rattle.homeo_syntax.specs.Source as s
 use Rattle.homeo_syntax.specs.declared.phrase.Ident.{Ident}
 use Rattle.homeo_syntax.specs.Key.{definitions as syntax_definitions}
@@ -110,10 +111,6 @@ named_client w n k e =
     ]
 
 -- ---- distinct names
-or_false : (a b : Bool) → (a || b) ≡ false → (a ≡ false) × (b ≡ false)
-or_false true b e = absurd (cc)
-or_false false b e = (refl, e)
-
 -- the names of declarations behind others are judged after those
 each_from-append : (rule : List Ident → Ident → List Fault) (before xs ys : List Ident) → each_from rule before (xs ++ ys) ≡ each_from rule before xs ++ each_from rule (before ++ xs) ys
 unfolding meaning_definitions
@@ -136,7 +133,7 @@ absent_before before (d ∷ cs) (suc k) c none found =
     let later = absent_before (before ++ d.name ∷ []) cs k c (none_second (duplicate before d.name) (each_from duplicate (before ++ d.name ∷ []) (map (λ (c : s.Client). c.name) cs)) none) found in
     let cut = list_any-append (λ (m : ℕ). m == c.name.name) (map (λ (y : Ident). y.name) before) (d.name.name ∷ []) in
     let appended : map (λ (y : Ident). y.name) (before ++ d.name ∷ []) ≡ map (λ (y : Ident). y.name) before ++ d.name.name ∷ [] = map-append (λ (y : Ident). y.name) before (d.name ∷ []) in
-    (or_false (list_any (λ (m : ℕ). m == c.name.name) (map (λ (y : Ident). y.name) before)) (list_any (λ (m : ℕ). m == c.name.name) (d.name.name ∷ []))
+    (or_parts (list_any (λ (m : ℕ). m == c.name.name) (map (λ (y : Ident). y.name) before)) (list_any (λ (m : ℕ). m == c.name.name) (d.name.name ∷ []))
     (sym cut ∙ ap (list_any (λ (m : ℕ). m == c.name.name)) (sym appended) ∙ later)).0
 
 -- the last of the names before isn't the one that comes after
@@ -145,12 +142,9 @@ unfolding meaning_definitions
 last_differs before d n none =
     let cut = list_any-append (λ (m : ℕ). m == n) (map (λ (y : Ident). y.name) before) (d.name ∷ []) in
     let appended : map (λ (y : Ident). y.name) (before ++ d ∷ []) ≡ map (λ (y : Ident). y.name) before ++ d.name ∷ [] = map-append (λ (y : Ident). y.name) before (d ∷ []) in
-    let last = (or_false (list_any (λ (m : ℕ). m == n) (map (λ (y : Ident). y.name) before)) (list_any (λ (m : ℕ). m == n) (d.name ∷ []))
+    let last = (or_parts (list_any (λ (m : ℕ). m == n) (map (λ (y : Ident). y.name) before)) (list_any (λ (m : ℕ). m == n) (d.name ∷ []))
     (sym cut ∙ ap (list_any (λ (m : ℕ). m == n)) (sym appended) ∙ none)).1 in
-    (or_false (d.name == n) false last).0
-
-same_name : (n : ℕ) → (n == n) ≡ true
-same_name n = (Decides-eqb n n).1 refl
+    (or_parts (d.name == n) false last).0
 
 -- each client is found at its own place, and as a client
 placed_from : (i : ℕ) (before : List Ident) (cs : List s.Client) (k : ℕ) (c : s.Client) → each_from duplicate before (map (λ (c : s.Client). c.name) cs) ≡ [] → slice_get cs k ≡ Some c
@@ -159,7 +153,7 @@ unfolding meaning_definitions
 placed_from i before [] k c none found = absurd (cc)
 placed_from i before (d ∷ cs) zero c none found =
     let same : d ≡ c = cc in
-    let here : (d.name.name == c.name.name) ≡ true = ap (λ (e : s.Client). d.name.name == e.name.name) (sym same) ∙ same_name d.name.name in
+    let here : (d.name.name == c.name.name) ≡ true = ap (λ (e : s.Client). d.name.name == e.name.name) (sym same) ∙ nat_itself d.name.name in
     let start : i ≡ i + 0 = omega arith in (
       ap (λ (b : Bool). cond b i (place_from (suc i) (map (λ (c : s.Client). c.name.name) cs) c.name.name)) here ∙ start,
       ap (λ (b : Bool). if b then Some (I.Client i) else first_named (numbered_from I.Client (i + 1) (map (λ (c : s.Client). c.name) cs)) c.name.name) here ∙ ap (λ (j : ℕ). Some (I.Client j)) start,
@@ -180,7 +174,7 @@ not_found : (ds es : List GlobalName) (n : ℕ) → is_in n (map (λ (y : Ident)
 unfolding meaning_definitions
 not_found [] es n none = refl
 not_found (d ∷ ds) es n none =
-    let parts = or_false (d.name.name == n) (list_any (λ (m : ℕ). m == n) (map (λ (y : Ident). y.name) (map (λ (d : GlobalName). d.name) ds))) none in
+    let parts = or_parts (d.name.name == n) (list_any (λ (m : ℕ). m == n) (map (λ (y : Ident). y.name) (map (λ (d : GlobalName). d.name) ds))) none in
     ap (λ (b : Bool). if b then Some d.item else first_named (ds ++ es) n) parts.0 ∙ not_found ds es n parts.1
 
 names_numbered : (kind : ℕ → Item) (i : ℕ) (xs : List Ident) → map (λ (d : GlobalName). d.name) (numbered_from kind i xs) ≡ xs
@@ -255,21 +249,21 @@ not_short : (cs : List s.Client) (xs : List Ident) (k : ℕ) (c : s.Client) → 
 not_short [] xs k c none found = absurd (cc)
 not_short (d ∷ cs) xs zero c none found =
     let same : d ≡ c = cc in
-    let here = (or_false (nat_lt (times d.name.name xs) (length d.calls)) (list_any (λ (c : s.Client). nat_lt (times c.name.name xs) (length c.calls)) cs) none).0 in
+    let here = (or_parts (nat_lt (times d.name.name xs) (length d.calls)) (list_any (λ (c : s.Client). nat_lt (times c.name.name xs) (length c.calls)) cs) none).0 in
     let enough : length d.calls ≤ times d.name.name xs = not_less (times d.name.name xs) (length d.calls) here in
     subst (λ (c : s.Client). length c.calls ≤ times c.name.name xs) same enough
 not_short (d ∷ cs) xs (suc k) c none found =
-    not_short cs xs k c (or_false (nat_lt (times d.name.name xs) (length d.calls)) (list_any (λ (c : s.Client). nat_lt (times c.name.name xs) (length c.calls)) cs) none).1 found
+    not_short cs xs k c (or_parts (nat_lt (times d.name.name xs) (length d.calls)) (list_any (λ (c : s.Client). nat_lt (times c.name.name xs) (length c.calls)) cs) none).1 found
 
 no_calls : (cs : List s.Client) (k : ℕ) (c : s.Client) → list_any (λ (c : s.Client). nat_lt 0 (length c.calls)) cs ≡ false → slice_get cs k ≡ Some c → 0 ≡ length c.calls
 no_calls [] k c none found = absurd (cc)
 no_calls (d ∷ cs) zero c none found =
     let same : d ≡ c = cc in
-    let here = (or_false (nat_lt 0 (length d.calls)) (list_any (λ (c : s.Client). nat_lt 0 (length c.calls)) cs) none).0 in
+    let here = (or_parts (nat_lt 0 (length d.calls)) (list_any (λ (c : s.Client). nat_lt 0 (length c.calls)) cs) none).0 in
     let few = not_less 0 (length d.calls) here in
     let zero_calls : 0 ≡ length d.calls = omega (arith, few) in
     zero_calls ∙ ap (λ (c : s.Client). length c.calls) same
-no_calls (d ∷ cs) (suc k) c none found = no_calls cs k c (or_false (nat_lt 0 (length d.calls)) (list_any (λ (c : s.Client). nat_lt 0 (length c.calls)) cs) none).1 found
+no_calls (d ∷ cs) (suc k) c none found = no_calls cs k c (or_parts (nat_lt 0 (length d.calls)) (list_any (λ (c : s.Client). nat_lt 0 (length c.calls)) cs) none).1 found
 
 -- ---- the schedule runs every call
 each_within : (P : Ident → Type 0) (xs : List Ident) → Each P xs → All P xs

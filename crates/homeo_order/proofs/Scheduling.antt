@@ -5,7 +5,7 @@ use Rattle.std.specs.Option.{option_map_or}
 use Rattle.std.proofs.lemmas.List.Sums.{sum_by-cons, sum_by-append}
 use Rattle.std.proofs.lemmas.Bool.Decides.{Decides-eqb}
 use Rattle.std.proofs.lemmas.List.{length-map, get_or-map}
-use Rattle.std.proofs.lemmas.Option.{slice_get-get_or}
+use Rattle.std.proofs.lemmas.Option.{slice_get-get_or, same_Some}
 use Rattle.homeo_syntax.specs.Source as s
 use Rattle.homeo_syntax.specs.declared.phrase.Ident.{Ident}
 use Rattle.homeo_meaning.specs.declared.call.CallId.{CallId}
@@ -66,9 +66,6 @@ times_before n before xs x is =
     omega (arith, sum_by-append counts before (x ∷ xs), times-cons n x xs, one)
 
 -- ---- the clients of names
-pub some_is : {X : Type 0} (x y : X) → Some x ≡ Some y → x ≡ y
-some_is x y e = cc
-
 -- past the last client there is none
 pub past_the_last : {X : Type 0} (xs : List X) (k : ℕ) → slice_get xs k ≡ None → length xs ≤ k
 past_the_last [] k is = omega arith
@@ -81,7 +78,7 @@ unfolding definitions
 its_name w n c named found =
     let k = place_of (client_names w) n in
     let many : length (client_names w) ≡ length w.clients = length-map w.clients (λ (c : s.Client). c.name.name) in
-    let there : get_or w.clients k c ≡ c = some_is _ _ (sym (slice_get-get_or w.clients k c named) ∙ found) in
+    let there : get_or w.clients k c ≡ c = same_Some _ _ (sym (slice_get-get_or w.clients k c named) ∙ found) in
     sym (ap (λ (c : s.Client). c.name.name) there) ∙ sym (get_or-map (λ (c : s.Client). c.name.name) w.clients k c 0 named)
     ∙ named_there (client_names w) n 0 (omega (arith, many, named))
 
