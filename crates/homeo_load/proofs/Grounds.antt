@@ -9,6 +9,7 @@ use Rattle.std.proofs.lemmas.Map.Keys.{IsDistinct-push}
 use Rattle.std.specs.Cmp.{nat_eq_equiv}
 use Rattle.std.proofs.lemmas.Map.Steps.{length-le_from_distinct_below}
 use Rattle.std.proofs.lemmas.Bool.Decides.{nat_tests}
+use Rattle.std.proofs.lemmas.Bool.{or_parts}
 use Rattle.homeo_meaning.specs.Key.{definitions as meaning_definitions}
 use Rattle.homeo_meaning.specs.Schema.{nat_of}
 use Rattle.homeo_meaning.specs.GlobalNames.{SitedCall}
@@ -60,10 +61,6 @@ same_key u v k m e =
     ap₂ same_ground k.same m.same ∙ (λ i. same_ground (made a k.number k.site) (made (name i) (number i) (site i))) ∙ same_itself a k.number k.site
 
 -- ---- those that are kept have different numbers
-neither : (a b : Bool) → (a || b) ≡ false → (a ≡ false) × (b ≡ false)
-neither true b e = cc
-neither false b e = (refl, e)
-
 keys_differ : (u v : SitedCall) → IsLoadCall u → IsLoadCall v → same_ground u v ≡ false → (d : Bool) → eqb (key u) (key v) ≡ d → eqb (key u) (key v) ≡ false
 keys_differ u v k m e false q = q
 keys_differ u v k m e true q =
@@ -74,7 +71,7 @@ keys_differ u v k m e true q =
 not_kept : (u : SitedCall) (kept : List SitedCall) → IsLoadCall u → All IsLoadCall kept → list_any (same_ground u) kept ≡ false → list_any (eqb (key u)) (map key kept) ≡ false
 not_kept u [] k a e = refl
 not_kept u (v ∷ kept) k a e =
-    let parts = neither (same_ground u v) (list_any (same_ground u) kept) e in
+    let parts = or_parts (same_ground u v) (list_any (same_ground u) kept) e in
     let here : eqb (key u) (key v) ≡ false = keys_differ u v k (All-head IsLoadCall v kept a) parts.0 (eqb (key u) (key v)) refl in
     (λ i. here i || list_any (eqb (key u)) (map key kept)) ∙ not_kept u kept k (All-tail IsLoadCall v kept a) parts.1
 

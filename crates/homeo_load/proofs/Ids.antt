@@ -1,8 +1,9 @@
 -- Calls of a load by their clients and numbers, and sums over them.
-use Rattle.std.proofs.Common.{◌≡◌, ◌<◌, ◌≤◌, ℕ, zero, suc, Bool, true, false, cond, List, [], ◌∷◌, map, length, Option, Some, None, slice_get, refl, sym, ap, ◌∙◌, arith}
+use Rattle.std.proofs.Common.{◌≡◌, ◌<◌, ◌≤◌, ℕ, zero, suc, Bool, true, false, cond, List, [], ◌∷◌, map, Option, Some, None, slice_get, refl, sym, ap, ◌∙◌, arith}
 use Rattle.std.specs.Prelude.{All, nat_lt, option_map, IfSome}
 use Rattle.std.proofs.lemmas.List.Elements.{All-head, All-tail}
 use Rattle.std.proofs.lemmas.Bool.Decides.{nat_tests}
+use Rattle.std.proofs.lemmas.Option.{slice_get-map, slice_get_past}
 use Rattle.homeo_syntax.specs.Source as s
 use Rattle.homeo_meaning.specs.Key.{definitions as meaning_definitions}
 use Rattle.homeo_meaning.specs.declared.call.CallId.{CallId}
@@ -22,14 +23,9 @@ at_number (suc n) some = slice_get some n
 abbrev pub addition_of : List Addition → CallId → Option Addition
 addition_of all id = cond (nat_lt id.client 8) (at_number id.seq (dealt id.client 0 all)) None
 
-get_map : {A B : Type 0} (f : A → B) (xs : List A) (n : ℕ) → slice_get (map f xs) n ≡ option_map f (slice_get xs n)
-get_map f [] n = refl
-get_map f (x ∷ xs) zero = refl
-get_map f (x ∷ xs) (suc n) = get_map f xs n
-
 numbered_map : (some : List Addition) (n : ℕ) → numbered n (map load_call some) ≡ option_map load_call (at_number n some)
 numbered_map some zero = refl
-numbered_map some (suc n) = get_map load_call some n
+numbered_map some (suc n) = slice_get-map load_call some n
 
 get_fit : (some : List Addition) → All IsAddition some → (n : ℕ) → IfSome (slice_get some n) IsAddition
 get_fit [] a n = tt
@@ -46,12 +42,6 @@ addition_fits all a id = by (nat_lt id.client 8)
     by : (b : Bool) → IfSome (cond b (at_number id.seq (dealt id.client 0 all)) None) IsAddition
     by true = at_fit (dealt id.client 0 all) (dealt_fit id.client 0 all a) id.seq
     by false = tt
-
--- past the last client
-past_end : {A : Type 0} (xs : List A) (n : ℕ) → length xs ≤ n → slice_get xs n ≡ None
-past_end [] n l = refl
-past_end (x ∷ xs) zero l = absurd (omega arith)
-past_end (x ∷ xs) (suc n) l = past_end xs n (omega arith)
 
 abbrev CalledAt : List Addition → ℕ → ℕ → Type 0
 CalledAt all seq client = call_of (load_of all) (record { client = client; seq = seq }) ≡ option_map load_call (addition_of all (record { client = client; seq = seq }))
@@ -70,7 +60,7 @@ call_if seq (Some client) = numbered seq client.calls
 call_past : (all : List Addition) (seq client : ℕ) → 8 ≤ client → CalledAt all seq client
 unfolding meaning_definitions definitions
 call_past all seq client l =
-    let none : slice_get (load_of all).clients client ≡ None = past_end (load_of all).clients client l in
+    let none : slice_get (load_of all).clients client ≡ None = slice_get_past (load_of all).clients client l in
     let q : nat_lt client 8 ≡ false = grind (arith, nat_tests) in
     ap (call_if seq) none ∙ sym (λ i. option_map load_call (cond (q i) (at_number seq (dealt client 0 all)) None))
 

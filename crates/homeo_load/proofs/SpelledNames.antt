@@ -5,6 +5,7 @@ use Rattle.std.specs.List.{list_all}
 use Rattle.std.proofs.lemmas.List.Kept.{AllPairs-cons}
 use Rattle.std.proofs.lemmas.List.Elements.{All-nil, All-cons}
 use Rattle.std.proofs.lemmas.Bool.Decides.{nat_tests}
+use Rattle.std.proofs.lemmas.Bool.{and_parts}
 use Rattle.homeo_syntax.specs.Key.{definitions as syntax_definitions}
 use Rattle.homeo_syntax.specs.Lexemes.{is_word, reserved, look_up}
 use Rattle.homeo_syntax.specs.declared.token.Version.TheVariants.{First}
@@ -31,10 +32,6 @@ same_itself (x ∷ xs) =
     let q : (x == x) ≡ true = grind (arith, nat_tests) in
     (λ i. q i && same xs xs) ∙ same_itself xs
 
-both : (a b : Bool) → (a && b) ≡ true → (a ≡ true) × (b ≡ true)
-both true b e = (refl, e)
-both false b e = cc
-
 differs : (x y : List ℕ) → not (same x y) ≡ true → x ≢ y
 differs x y e f =
     let q : same x y ≡ true = ap (same x) (sym f) ∙ same_itself x in
@@ -44,7 +41,7 @@ differs x y e f =
 differs_all : (x : List ℕ) (ys : List (List ℕ)) → list_all (λ y. not (same x y)) ys ≡ true → All (Differs x) ys
 differs_all x [] e = All-nil (Differs x)
 differs_all x (y ∷ ys) e =
-    let parts = both (not (same x y)) (list_all (λ y. not (same x y)) ys) e in
+    let parts = and_parts (not (same x y)) (list_all (λ y. not (same x y)) ys) e in
     All-cons (Differs x) y ys (differs x y parts.0) (differs_all x ys parts.1)
 
 no_pairs : AllPairs Differs []
@@ -53,7 +50,7 @@ no_pairs i j d lt within = absurd (omega arith)
 all_apart : (xs : List (List ℕ)) → apart xs ≡ true → AllPairs Differs xs
 all_apart [] e = no_pairs
 all_apart (x ∷ xs) e =
-    let parts = both (list_all (λ y. not (same x y)) xs) (apart xs) e in
+    let parts = and_parts (list_all (λ y. not (same x y)) xs) (apart xs) e in
     AllPairs-cons Differs x xs (differs_all x xs parts.0) (all_apart xs parts.1)
 
 pub names_apart : AllPairs Differs load_names
