@@ -1,8 +1,9 @@
 -- Three words that are a load, and two that are a wire.
-use Rattle.std.proofs.Common.{◌≡◌, ◌≤◌, ℕ, Bool, true, false, List, [], ◌∷◌, codes, subst, refl, arith}
-use Rattle.std.specs.Prelude.{◌&&◌, nat_le}
+use Rattle.std.proofs.Common.{◌≡◌, ◌≤◌, ℕ, true, List, [], ◌∷◌, codes, subst, refl, arith}
+use Rattle.std.specs.Prelude.{nat_le}
 use Rattle.std.specs.List.{list_all}
 use Rattle.std.proofs.lemmas.Bool.Decides.{nat_tests}
+use Rattle.std.proofs.lemmas.Bool.{and_parts}
 use Rattle.homeo_syntax.specs.Lexemes.{is_digit}
 use Rattle.homeo_words.specs.declared.command.Command.{Command}
 use Rattle.homeo_words.specs.declared.command.Command.TheVariants.{Steps, Run, Tables, Treaty, Serve, Forecast, Certify, Verify, Wire, Load}
@@ -74,15 +75,11 @@ pub record BeginsWithDigit (word : List ℕ) : Type 0 where
   pub low : 48 ≤ first
   pub high : first ≤ 57
 
-both : (a b : Bool) → (a && b) ≡ true → (a ≡ true) × (b ≡ true)
-both true b e = (refl, e)
-both false b e = cc
-
 pub begins_with_digit : (least most : ℕ) (word : List ℕ) (v : ℕ) → IsNumeral least most word v → BeginsWithDigit word
 begins_with_digit least most [] v is = absurd (omega (arith, is.some))
 begins_with_digit least most (b ∷ bytes) v is =
-    let here = both (is_digit b) (list_all is_digit bytes) is.digits in
-    let digit = both (nat_le 48 b) (nat_le b 57) here.0 in
+    let here = and_parts (is_digit b) (list_all is_digit bytes) is.digits in
+    let digit = and_parts (nat_le 48 b) (nat_le b 57) here.0 in
     record {
       first = b;
       rest = bytes;
