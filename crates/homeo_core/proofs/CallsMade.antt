@@ -1,8 +1,9 @@
 -- A call of a client over closed rounds and sites.
 use Rattle.homeo_history.specs.Key.{definitions as history_definitions}
 use Rattle.homeo_site.specs.Key.{definitions as site_definitions}
-use Rattle.std.proofs.Common.{◌≡◌, ℕ, zero, suc, ◌<◌, List, [], ◌∷◌, map, length, get_or, ℤ, Option, Some, None, Result, Ok, Err, refl, sym, ap, subst, ◌∙◌, slice_set}
-use Rattle.std.specs.Prelude.{slice_get, unwrap_or, IfOk, OnOk, OnErr}
+use Rattle.std.proofs.Common.{◌≡◌, ℕ, ◌<◌, List, map, length, get_or, ℤ, Option, Some, None, Result, Ok, Err, refl, sym, ap, subst, ◌∙◌, slice_set}
+use Rattle.std.specs.Prelude.{unwrap_or, IfOk, OnOk, OnErr}
+use Rattle.homeo_lemmas.proofs.Places.{set_itself}
 use Rattle.homeo_syntax.specs.Source as s
 use Rattle.homeo_meaning.specs.declared.call.CallId.{CallId}
 use Rattle.homeo_meaning.specs.Acceptance.{IsAccepted}
@@ -40,11 +41,6 @@ pub home_lt : (w : s.Workload) (start : List ℤ) (b : BookState) (sites : List 
 home_lt w start b sites home call accepted joined at =
     let below : home < sites_of w = subst (λ n. n < sites_of w) (site_is w call home at) (site_below w call accepted at.exists) in
     subst (λ n. home < n) (sym joined.round.count ∙ states_count sites) below
-
-pub set_itself : {X : Type 0} (xs : List X) (i : ℕ) (x : X) → slice_get xs i ≡ Some x → slice_set xs i x ≡ xs
-set_itself [] i x e = refl
-set_itself (y ∷ xs) zero x e = let same : y ≡ x = cc in ap (λ z. z ∷ xs) (sym same)
-set_itself (y ∷ xs) (suc i) x e = ap (λ l. y ∷ l) (set_itself xs i x e)
 
 -- where a site's state is as it was, so are all
 pub states_stay : (sites : List SiteValue) (home : ℕ) (d y : SiteValue) → home < length sites → y.state ≡ (get_or sites home d).state → states (slice_set sites home y) ≡ states sites

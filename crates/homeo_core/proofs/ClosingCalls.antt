@@ -6,6 +6,7 @@ use Rattle.std.proofs.Common.{◌≡◌, ℕ, suc, ◌+◌, ◌<◌, List, [], �
 use Rattle.std.specs.Prelude.{IsSome, slice_get}
 use Rattle.std.proofs.lemmas.List.{append-nil, length-map, length_push}
 use Rattle.std.proofs.lemmas.List.Elements.{All-push}
+use Rattle.std.proofs.lemmas.Option.{slice_get_within}
 use Rattle.homeo_syntax.specs.Source as s
 use Rattle.homeo_meaning.specs.declared.call.CallId.{CallId}
 use Rattle.homeo_meaning.specs.Acceptance.{IsAccepted}
@@ -23,7 +24,7 @@ use Rattle.homeo_history.specs.Merge.{segment_of}
 use Rattle.homeo_history.specs.Replayed.{deltas_after, end_of, finding_at, IsReplayed}
 use Rattle.homeo_history.proofs.AnswerLists.{answers_to_more, answers_of_end}
 use Rattle.homeo_history.proofs.CallRuns.{call_runs}
-use Rattle.homeo_history.proofs.Lists.{get_map_back, get_lt, all_from_get}
+use Rattle.homeo_history.proofs.Lists.{get_map_back, all_from_get}
 use Rattle.homeo_history.proofs.Rounds.{serial_end, base_or_end}
 use Rattle.homeo_site.specs.SiteState.{SiteState, SiteHolds, renewed}
 use Rattle.homeo_site.proofs.SitesHold.{begun_holds}
@@ -103,7 +104,7 @@ module _ (w : s.Workload) (start : List ℤ) (b : BookState) (sites : List SiteS
   renewed_holds : (i : ℕ) (x : SiteState) → slice_get sites i ≡ Some x → SiteHolds w (renewed next x)
   unfolding site_definitions
   renewed_holds i x e =
-      let lt : i < sites_of w = subst (λ n. i < n) joined.round.count (get_lt sites i x e) in
+      let lt : i < sites_of w = subst (λ n. i < n) joined.round.count (slice_get_within sites i x e) in
       begun_holds w x.number (suc x.round) next accepted (subst (λ n. n < sites_of w) (sym (joined.round.each i x e).numbered) lt) next_within
 
   renewed_in : (i : ℕ) (x : SiteState) → slice_get sites i ≡ Some x → IsInRound (after_closing w b sites home call broken) i (renewed next x)

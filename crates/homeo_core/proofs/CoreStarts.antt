@@ -5,9 +5,11 @@ use Rattle.homeo_core.specs.Key.{definitions}
 use Rattle.std.proofs.Common.{◌≡◌, ℕ, zero, suc, ◌+◌, ◌<◌, ◌≤◌, List, [], ◌∷◌, ◌++◌, map, length, replicate, ℤ, Some, refl, sym, ap, subst, ◌∙◌, arith}
 use Rattle.std.specs.Prelude.{slice_get, slice_index_or, IsSome, sum}
 use Rattle.std.specs.List.{range_with_len, flat_map}
-use Rattle.std.proofs.lemmas.List.{length-map, map-append}
+use Rattle.std.proofs.lemmas.List.{length-map, map-append, length-replicate}
 use Rattle.std.proofs.lemmas.List.Elements.{All-nil}
 use Rattle.std.proofs.lemmas.List.Sums.{sum_by-cons}
+use Rattle.std.proofs.lemmas.List.FromFn.{length-range_with_len}
+use Rattle.homeo_lemmas.proofs.Lists.{range_more}
 use Rattle.homeo_syntax.specs.Source as s
 use Rattle.homeo_syntax.specs.SourceView.{plain_workload}
 use Rattle.homeo_syntax.specs.declared.workload.Workload.{Workload}
@@ -19,14 +21,13 @@ use Rattle.homeo_history.specs.Follows.{Follows}
 use Rattle.homeo_history.specs.History.{Entry, Round}
 use Rattle.homeo_history.specs.Legal.{IsAtSites, call_count, calls_of, numbers_of}
 use Rattle.homeo_history.specs.Replayed.{IsReplayed}
-use Rattle.homeo_history.proofs.Lists.{get_map_back, all_from_get, range_more}
+use Rattle.homeo_history.proofs.Lists.{get_map_back, all_from_get}
 use Rattle.homeo_site.specs.SiteState.{SiteState, SiteHolds, begun}
 use Rattle.homeo_site.specs.SiteView.{SiteValue}
 use Rattle.homeo_site.proofs.SitesHold.{begun_holds}
 use Rattle.homeo_core.specs.CoreView.{CoreHolds, begun_sites, core_at, core_history}
 use Rattle.homeo_core.specs.Joined.{BookState, IsInRound, rounds_of}
 use Rattle.homeo_core.specs.SiteLists.{AreOf}
-use Rattle.homeo_core.proofs.GatheredSites.{length_same}
 
 -- ---- the sites
 pub begun_more : (n : ℕ) (base : List ℤ) → begun_sites (suc n) base ≡ begun_sites n base ++ begun n 0 base ∷ []
@@ -57,10 +58,6 @@ begun_at count base i x e =
     let h = range_at 0 count i was.0 was.1.0 in
     let same : was.0 ≡ i = omega (arith, h.is) in
     record { is = ap (λ j. begun j 0 base) (sym same) ∙ was.1.1; lt = h.lt }
-
-length_range : (a n : ℕ) → length (range_with_len a n) ≡ n
-length_range a zero = refl
-length_range a (suc n) = ap suc (length_range (a + 1) n)
 
 -- ---- no calls
 no_entries : (base : List ℤ) (ns : List ℕ) → flat_map (λ (es : List Entry). es) (map (λ (x : SiteState). x.segment) (map (λ i. begun i 0 base) ns)) ≡ []
@@ -100,12 +97,12 @@ core_begins work base accepted within =
         holds = all_from_get (SiteHolds w) (begun_sites (sites_of w) base) (λ i x e. let h = begun_at (sites_of w) base i x e in
             subst (SiteHolds w) h.is (begun_holds w i 0 base accepted h.lt within));
         round = record {
-          count = length-map (range_with_len 0 (sites_of w)) (λ i. begun i 0 base) ∙ length_range 0 (sites_of w);
+          count = length-map (range_with_len 0 (sites_of w)) (λ i. begun i 0 base) ∙ length-range_with_len 0 (sites_of w);
           each = λ i x e. let h = begun_at (sites_of w) base i x e in subst (IsInRound b i) h.is (in_first i);
         };
       };
       ordered = record {
-        clients = length_same (length w.clients) 0;
+        clients = length-replicate (length w.clients) 0;
         exist = λ client. subst (λ n. n ≤ call_count w client) (sym (zeros_at (length w.clients) client)) (omega arith);
         numbers = λ client. ap (numbers_of client) (no_calls base (sites_of w)) ∙ ap (range_with_len 1) (sym (zeros_at (length w.clients) client));
       };

@@ -1,6 +1,5 @@
 -- An accepted workload has at most 64 clients, and at most 16 sites.
 use Rattle.homeo_meaning.specs.Key.{definitions as meaning_definitions}
-use Rattle.homeo_plan.specs.Key.{definitions as plan_definitions}
 use Rattle.std.proofs.Common.{◌≡◌, ℕ, ◌+◌, ◌≤◌, ◌==◌, List, [], ◌∷◌, ◌++◌, length, arith, length-append}
 use Rattle.std.proofs.lemmas.Bool.{eqb-false}
 use Rattle.homeo_syntax.specs.Source as s
@@ -10,16 +9,14 @@ use Rattle.homeo_meaning.specs.NumberRules.{passes_limit, limit_faults}
 use Rattle.homeo_meaning.specs.TransactionRules.{each_from}
 use Rattle.homeo_meaning.specs.declared.call.Purpose.TheVariants.{Run}
 use Rattle.homeo_meaning.proofs.FaultParts.{none_first, none_second, parts, limit_parts}
-use Rattle.homeo_plan.specs.Planned.{sites_of}
-use Rattle.homeo_build.proofs.FewSites.{sites_few}
-use Rattle.homeo_core.proofs.SitesOfClients.{none_when}
+use Rattle.homeo_meaning.proofs.SoundRelations.{when_none}
 
 -- as many items as a limit allows
 pub few_from : {A : Type 0} (limit : ℕ) (name : A → Ident) (before xs : List A) → length before ≤ limit → each_from (passes_limit limit name) before xs ≡ [] → length before + length xs ≤ limit
 unfolding meaning_definitions
 few_from limit name before [] most none = omega (arith, most)
 few_from limit name before (x ∷ xs) most none =
-    let here : length before ≡ limit → ⊥ = eqb-false (length before) limit (none_when (length before == limit) _ (none_first (passes_limit limit name before x) (each_from (passes_limit limit name) (before ++ x ∷ []) xs) none)) in
+    let here : length before ≡ limit → ⊥ = eqb-false (length before) limit (when_none (length before == limit) _ (none_first (passes_limit limit name before x) (each_from (passes_limit limit name) (before ++ x ∷ []) xs) none)) in
     let longer : length (before ++ x ∷ []) ≡ length before + 1 = length-append before (x ∷ []) in
     let next : length (before ++ x ∷ []) ≤ limit = omega (arith, most, here, longer) in
     let whole = few_from limit name (before ++ x ∷ []) xs next (none_second (passes_limit limit name before x) (each_from (passes_limit limit name) (before ++ x ∷ []) xs) none) in
@@ -32,7 +29,3 @@ few_clients w none =
 
 pub clients_few : (w : s.Workload) → IsAccepted w → length w.clients ≤ 64
 clients_few w accepted = few_clients w (parts Run w accepted.rules).text.limits
-
-pub sites_of_few : (w : s.Workload) → IsAccepted w → sites_of w ≤ 16
-unfolding plan_definitions
-sites_of_few w accepted = (sites_few w accepted).few

@@ -7,6 +7,7 @@ use Rattle.std.specs.Prelude.{ℤ, sum, slice_get, slice_set, unwrap_or}
 use Rattle.std.proofs.lemmas.List.{append-nil, map-append, length-map, length_push, length-append}
 use Rattle.std.proofs.lemmas.List.Sums.{sum_by-cons}
 use Rattle.std.proofs.lemmas.Bool.Decides.{nat_tests}
+use Rattle.std.proofs.lemmas.Option.{slice_get_within}
 use Rattle.homeo_syntax.specs.Source as s
 use Rattle.homeo_meaning.specs.declared.call.CallId.{CallId}
 use Rattle.homeo_plan.specs.declared.treaty.Broken.{Broken}
@@ -14,7 +15,6 @@ use Rattle.homeo_history.specs.Follows.{site_or_zero, FollowsRound, FollowsRound
 use Rattle.homeo_history.specs.History.{Entry, Round}
 use Rattle.homeo_history.specs.Legal.{site_of}
 use Rattle.homeo_history.specs.Merge.{segment_of, put_at, merge}
-use Rattle.homeo_history.proofs.Lists.{get_lt}
 use Rattle.homeo_site.specs.SiteState.{SiteState, local_entry, after_local, renewed}
 use Rattle.homeo_core.specs.Joined.{BookState, segments_of, open_round}
 use Rattle.homeo_core.specs.Events.{next_base, closed_round}
@@ -246,7 +246,7 @@ unfolding definitions history_definitions site_definitions
 follows_local w start b sites home x call calls joined here at_site f =
     let y : SiteState = after_local w x call in
     let e : Entry = local_entry w x call in
-    let lt : home < length (segments_of sites) = subst (λ n. home < n) (sym (length-map sites (λ (z : SiteState). z.segment))) (get_lt sites home x here) in
+    let lt : home < length (segments_of sites) = subst (λ n. home < n) (sym (length-map sites (λ (z : SiteState). z.segment))) (slice_get_within sites home x here) in
     let at : site_or_zero w call ≡ home = site_is w call home at_site.at_site in
     rounds_more w b.closed (open_round b.base sites) (open_round b.base (slice_set sites home y)) calls call (open_more w b.base sites (slice_set sites home y) home e lt (segments_extended sites home x y e here refl) at) f
 

@@ -3,7 +3,8 @@ use Rattle.homeo_core.specs.Key.{definitions}
 use Rattle.std.proofs.Common.{◌≡◌, ℕ, zero, suc, ◌<◌, List, [], ◌∷◌, length, take, replicate, get_or, Some, ℤ, refl, sym, ap, subst, ◌∙◌, arith, slice_set, ◌++◌}
 use Rattle.std.specs.Prelude.{slice_get, All}
 use mathlib.Core.Logic.{⊎_elim}
-use Rattle.homeo_history.proofs.Lists.{All-get, all_from_get, set_cases}
+use Rattle.homeo_lemmas.proofs.Places.{All-get}
+use Rattle.homeo_history.proofs.Lists.{all_from_get, set_cases}
 use Rattle.homeo_site.specs.SiteState.{SiteState}
 use Rattle.homeo_site.specs.SiteView.{SiteValue}
 use Rattle.homeo_round.specs.PlusDeltas.{plus_deltas}
@@ -78,14 +79,6 @@ unfolding definitions
 turn round base old new sites i d all is lt =
     let here : slice_get old i ≡ Some (get_or sites i d).state = sym (from_at old new i) ∙ sym (ap (λ l. slice_get l i) is) ∙ states_at sites i d lt in
     record { stands = here; at = all i (get_or sites i d).state here }
-
-pub length_same : {X : Type 0} (n : ℕ) (x : X) → length (replicate n x) ≡ n
-length_same zero x = refl
-length_same (suc n) x = ap suc (length_same n x)
-
-pub take_whole : {X : Type 0} (xs : List X) → take (length xs) xs ≡ xs
-take_whole [] = refl
-take_whole (x ∷ xs) = ap (λ l. x ∷ l) (take_whole xs)
 
 pub segments_more : (sites : List SiteValue) (x : SiteValue) → segments_of (states (sites ++ x ∷ [])) ≡ segments_of (states sites) ++ x.state.segment ∷ []
 unfolding definitions

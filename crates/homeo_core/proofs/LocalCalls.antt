@@ -6,14 +6,16 @@ use Rattle.std.proofs.Common.{◌≡◌, ℕ, List, [], ◌∷◌, ◌++◌, map
 use Rattle.std.specs.Prelude.{slice_get, slice_set}
 use mathlib.Core.Logic.{⊎_elim}
 use Rattle.std.proofs.lemmas.List.{append-nil}
+use Rattle.std.proofs.lemmas.Bool.{eqb-true}
+use Rattle.homeo_lemmas.proofs.Places.{All-get}
 use Rattle.homeo_syntax.specs.Source as s
 use Rattle.homeo_meaning.specs.declared.call.CallId.{CallId}
 use Rattle.homeo_meaning.specs.Acceptance.{IsAccepted}
 use Rattle.homeo_history.specs.Answers.{local_answer, local_answers, answers_of, answers_to}
 use Rattle.homeo_history.specs.History.{Entry}
 use Rattle.homeo_history.specs.Legal.{IsClientAt, IsCallAt}
-use Rattle.homeo_history.proofs.ClientAnswers.{same_client, client_at}
-use Rattle.homeo_history.proofs.Lists.{get_set_same, set_cases, length_set, All-get, all_from_get}
+use Rattle.homeo_history.proofs.ClientAnswers.{client_at}
+use Rattle.homeo_history.proofs.Lists.{get_set_same, set_cases, length_set, all_from_get}
 use Rattle.homeo_site.specs.SiteState.{SiteState, SiteHolds, KeepsCall, local_entry, after_local}
 use Rattle.homeo_site.proofs.SitesHold.{local_holds}
 use Rattle.homeo_core.specs.Joined.{BookState, IsInRound, AreJoined, segments_of}
@@ -53,7 +55,7 @@ module _ (w : s.Workload) (start : List ℤ) (b : BookState) (sites : List SiteS
   unfolding history_definitions site_definitions
   local_more client true e =
       let at = joined.round.each home x here in
-      let own : IsClientAt w home client = subst (IsClientAt w home) (same_client call.client client e) (client_at w call home at_site.at_site) in
+      let own : IsClientAt w home client = subst (IsClientAt w home) (eqb-true call.client client e) (client_at w call home at_site.at_site) in
       own_local w start b (slice_set sites home y) accepted local_joined client home y own (get_set_same sites home x y here)
       ∙ one_more_entry client x.round x.number x.segment entry
       ∙ ap (λ xs. xs ++ answers_to client (local_answer x.round x.number entry ∷ [])) (sym (own_local w start b sites accepted joined client home x own here))

@@ -6,6 +6,7 @@ use Rattle.std.proofs.Common.{◌≡◌, ℕ, zero, suc, ◌≤◌, List, [], �
 use Rattle.std.specs.Prelude.{All, slice_get}
 use Rattle.std.proofs.lemmas.List.{length-map}
 use Rattle.std.proofs.lemmas.List.Elements.{All-nil, All-cons}
+use Rattle.homeo_lemmas.proofs.Places.{get_map, All-get}
 use Rattle.homeo_syntax.specs.Source as s
 use Rattle.homeo_meaning.specs.Acceptance.{IsAccepted}
 use Rattle.homeo_meaning.specs.Bounds.{IsWithin}
@@ -22,7 +23,7 @@ use Rattle.homeo_history.specs.Merge.{segment_of}
 use Rattle.homeo_history.specs.Replayed.{end_of, KeepsAll, site_end, fold_of}
 use Rattle.homeo_history.proofs.ClientAnswers.{at_own_site}
 use Rattle.homeo_history.proofs.Folds.{fold_within}
-use Rattle.homeo_history.proofs.Lists.{get_index, get_map, All-get}
+use Rattle.homeo_history.proofs.Lists.{get_index}
 use Rattle.homeo_history.proofs.Merges.{merge_law}
 use Rattle.homeo_site.specs.SiteState.{SiteState, SiteHolds}
 use Rattle.homeo_core.specs.Joined.{BookState, AreJoined, segments_of, open_round, gathered}

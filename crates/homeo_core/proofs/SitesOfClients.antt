@@ -2,12 +2,15 @@
 use Rattle.homeo_syntax.specs.Key.{definitions as syntax_definitions}
 use Rattle.homeo_meaning.specs.Key.{definitions as meaning_definitions}
 use Rattle.homeo_history.specs.Key.{definitions as history_definitions}
-use Rattle.std.proofs.Common.{◌≡◌, ℕ, zero, suc, ◌<◌, List, [], ◌∷◌, map, length, ℤ, pos, ◌≤ℤ◌, ◌<ℤ◌, int_le, Bool, true, false, All, Some, refl, sym, ap, subst, ◌∙◌, arith, to_z, of_z}
+use Rattle.std.proofs.Common.{◌≡◌, ℕ, zero, suc, ◌<◌, List, [], ◌∷◌, length, ℤ, pos, ◌≤ℤ◌, ◌<ℤ◌, int_le, false, All, Some, sym, ap, subst, ◌∙◌, arith, to_z, of_z}
 use Rattle.std.specs.Prelude.{slice_get}
 use Rattle.std.specs.List.{flat_map}
 use Rattle.std.specs.Option.{option_map, option_map_or}
 use mir.Syntax.{w64}
 use Rattle.std.proofs.lemmas.Int.{ints, fits_signed_from_abs, to_z-of_z}
+use Rattle.std.proofs.lemmas.Option.{slice_get_within}
+use Rattle.homeo_lemmas.proofs.Lists.{length_map}
+use Rattle.homeo_lemmas.proofs.Places.{All-get}
 use Rattle.homeo_syntax.specs.Source as s
 use Rattle.homeo_syntax.specs.SourceView.{plain_client, plain_workload}
 use Rattle.homeo_syntax.specs.WellFormed as formed
@@ -19,16 +22,14 @@ use Rattle.homeo_meaning.specs.declared.call.CallId.{CallId}
 use Rattle.homeo_meaning.specs.Calls.{CallExists}
 use Rattle.homeo_meaning.specs.CallRules.{call_faults, client_faults}
 use Rattle.homeo_meaning.specs.GlobalNames.{scope_of}
-use Rattle.homeo_meaning.specs.ListRules.{when}
 use Rattle.homeo_meaning.specs.NumberRules.{site_faults}
 use Rattle.homeo_meaning.specs.Schema.{nat_of}
-use Rattle.homeo_meaning.specs.declared.rules.Fault.{Fault}
 use Rattle.homeo_meaning.specs.declared.call.Purpose.TheVariants.{Run}
 use Rattle.homeo_meaning.proofs.FaultParts.{none_second, parts, declared_parts}
 use Rattle.homeo_meaning.proofs.SoundRules.{each-none}
+use Rattle.homeo_meaning.proofs.SoundRelations.{when_none}
 use Rattle.homeo_plan.proofs.PlannedCalls.{KnownCall, known}
 use Rattle.homeo_build.proofs.FewSites.{few_sites}
-use Rattle.homeo_history.proofs.Lists.{All-get, get_lt}
 use Rattle.homeo_history.specs.Legal.{IsClientAt, call_count}
 
 -- ---- a client's site
@@ -36,16 +37,11 @@ pub record IsFew (n : ℤ) : Type 0 where
   pub some : pos 0 ≤ℤ n
   pub few : n ≤ℤ pos 16
 
-pub none_when : (b : Bool) (f : Fault) → when b (f ∷ []) ≡ [] → b ≡ false
-unfolding meaning_definitions
-none_when true f e = absurd (cc)
-none_when false f e = refl
-
 no_site_fault : (sites site : Number) → site_faults sites site ≡ [] → int_le sites.value site.value ≡ false
 unfolding meaning_definitions
-no_site_fault sites site e = none_when (int_le sites.value site.value) _ e
+no_site_fault sites site e = when_none (int_le sites.value site.value) _ e
 
-not_negative : (cs : List s.Client) (i : ℕ) (c : s.Client) → formed.Each (λ (c : s.Client). pos 0 ≤ℤ c.site.value) cs → slice_get cs i ≡ Some c → pos 0 ≤ℤ c.site.value
+pub not_negative : (cs : List s.Client) (i : ℕ) (c : s.Client) → formed.Each (λ (c : s.Client). pos 0 ≤ℤ c.site.value) cs → slice_get cs i ≡ Some c → pos 0 ≤ℤ c.site.value
 unfolding syntax_definitions
 not_negative [] i c h e = absurd (cc)
 not_negative (d ∷ cs) zero c h e = let q : d ≡ c = cc in subst (λ (z : s.Client). pos 0 ≤ℤ z.site.value) q h.0
@@ -77,15 +73,11 @@ read_site w i c accepted found =
     ap (option_map (λ (z : s.Client). nat_of z.site.value)) found ∙ ap (λ n. Some (nat_of n)) (sym (read c.site.value h))
 
 -- ---- how many calls it has
-pub same_length : {X Y : Type 0} (f : X → Y) (xs : List X) → length (map f xs) ≡ length xs
-same_length f [] = refl
-same_length f (x ∷ xs) = ap suc (same_length f xs)
-
 pub counted : (w : Workload) (i : ℕ) (c : Client) → slice_get (plain_workload w).clients i ≡ Some (plain_client c) → length c.calls.items ≡ call_count (plain_workload w) i
 unfolding syntax_definitions history_definitions
 counted w i c found =
-    sym (ap (λ o. option_map_or (λ (z : s.Client). length z.calls) o 0) found ∙ same_length _ c.calls.items)
+    sym (ap (λ o. option_map_or (λ (z : s.Client). length z.calls) o 0) found ∙ length_map _ c.calls.items)
 
 -- ---- the client of a call
 pub client_exists : (w : s.Workload) (call : CallId) → CallExists w call → call.client < length w.clients
-client_exists w call h = let n : KnownCall w call = known w call h in get_lt w.clients call.client n.client n.found
+client_exists w call h = let n : KnownCall w call = known w call h in slice_get_within w.clients call.client n.client n.found

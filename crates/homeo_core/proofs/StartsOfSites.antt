@@ -4,12 +4,12 @@ use Rattle.std.proofs.Common.{◌≡◌, ℕ, zero, suc, true, List, [], ◌∷�
 use Rattle.std.specs.Prelude.{slice_get, slice_index_or}
 use mathlib.Core.Logic.{⊎_elim}
 use Rattle.std.specs.Prelude.{◌⊎◌}
-use Rattle.std.proofs.lemmas.List.{map-append}
+use Rattle.std.proofs.lemmas.List.{map-append, length-replicate}
+use Rattle.homeo_lemmas.proofs.Lists.{length_map}
 use Rattle.homeo_syntax.specs.declared.workload.Workload.{Workload}
 use Rattle.homeo_site.specs.SiteView.{StartValue}
 use Rattle.homeo_history.proofs.Lists.{set_cases}
 use Rattle.homeo_core.specs.Starts.{start_after, AreStarts, waits}
-use Rattle.homeo_core.proofs.SitesOfClients.{same_length}
 
 pub no_start : (starts : List (Option StartValue)) (n : ℕ) (d : Option StartValue) → slice_get (map waits starts) n ≡ Some true → slice_index_or starts n d ≡ None → ⊥
 unfolding definitions
@@ -46,7 +46,7 @@ waiting_more starts s n e = map-append waits starts (Some s ∷ []) ∙ ap (λ l
     one_more (suc n) = ap (λ l. true ∷ l) (one_more n)
 
 pub waiting_count : (starts : List (Option StartValue)) (n : ℕ) → map waits starts ≡ replicate n true → length starts ≡ n
-waiting_count starts n e = sym (same_length waits starts) ∙ ap length e ∙ length_replicate n
+waiting_count starts n e = sym (length_map waits starts) ∙ ap length e ∙ length_replicate n
   where
     length_replicate : (n : ℕ) → length (replicate n true) ≡ n
     length_replicate zero = refl
@@ -55,12 +55,9 @@ waiting_count starts n e = sym (same_length waits starts) ∙ ap length e ∙ le
 pub as_many : {X Y A B : Type 0} (f : X → A) (g : Y → B) (xs : List X) (ys : List Y) (n : ℕ) (a : A) (b : B) → map f xs ≡ replicate n a → map g ys ≡ replicate n b → length xs ≡ length ys
 as_many f g xs ys n a b p q = count f xs n a p ∙ sym (count g ys n b q)
   where
-    length_replicate : {A : Type 0} (n : ℕ) (a : A) → length (replicate n a) ≡ n
-    length_replicate zero a = refl
-    length_replicate (suc n) a = ap suc (length_replicate n a)
 
     count : {X A : Type 0} (f : X → A) (xs : List X) (n : ℕ) (a : A) → map f xs ≡ replicate n a → length xs ≡ n
-    count f xs n a p = sym (same_length f xs) ∙ ap length p ∙ length_replicate n a
+    count f xs n a p = sym (length_map f xs) ∙ ap length p ∙ length-replicate n a
 
 -- ---- a start that is given to its site
 pub start_there : (starts : List (Option StartValue)) (n : ℕ) (d : Option StartValue) (s : StartValue) → slice_get (map waits starts) n ≡ Some true → slice_index_or starts n d ≡ Some s → slice_get starts n ≡ Some (Some s)
@@ -76,8 +73,3 @@ starts_less w round next starts n o none all i s e =
   where
     gone : None ≡ Some s → ⊥
     gone q = cc
-
-pub map_set : {X Y : Type 0} (f : X → Y) (xs : List X) (i : ℕ) (x : X) → map f (slice_set xs i x) ≡ slice_set (map f xs) i (f x)
-map_set f [] i x = refl
-map_set f (y ∷ xs) zero x = refl
-map_set f (y ∷ xs) (suc i) x = ap (λ l. f y ∷ l) (map_set f xs i x)

@@ -2,7 +2,7 @@ use Rattle.std.proofs.Common.{◌∙◌, arith}
 use Rattle.std.proofs.lemmas.Int.{ints}
 use Rattle.homeo_syntax.specs.SourceView.{plain_workload}
 use Rattle.homeo_build.proofs.FewSites.{read_few, read_is, some_sites}
-use Rattle.homeo_core.proofs.FewClients.{sites_of_few}
+use Rattle.homeo_site.proofs.Limits.{few_sites}
 use Rattle.homeo_core.proofs.clients.site_count.Goals as goal
 
 pub natural-requires-clause-some : goal.natural-requires-clause-some
@@ -24,6 +24,6 @@ returns-clause-some c =
 
 pub returns-clause-few : goal.returns-clause-few
 returns-clause-few c =
-    let few = sites_of_few (plain_workload c.args.w.now) c.workload.ensures.accepted in
+    let few = few_sites (plain_workload c.args.w.now) c.workload.ensures.accepted in
     let is = returns-clause-count c in
     omega (arith, is, few)

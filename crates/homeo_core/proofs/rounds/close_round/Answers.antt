@@ -1,5 +1,5 @@
 use Rattle.std.proofs.Common.{◌≡◌, true, [], ◌<◌, List, ◌∷◌, ◌++◌, Some, length, map, get_or, take, replicate, sym, ap, subst, ◌∙◌, arith}
-use Rattle.std.proofs.lemmas.List.{length-map, map-append}
+use Rattle.std.proofs.lemmas.List.{length-map, map-append, length-replicate}
 use Rattle.homeo_syntax.specs.Listed.{Listed}
 use Rattle.homeo_syntax.specs.Source as s
 use Rattle.homeo_syntax.specs.SourceView.{plain_workload}
@@ -26,7 +26,7 @@ use Rattle.homeo_core.specs.PreparedView.{PreparedValue}
 use Rattle.homeo_core.specs.Joined.{BookState, gathered, segments_of}
 use Rattle.homeo_core.specs.Books.{book_of}
 use Rattle.homeo_core.specs.SiteLists.{states, AreAt}
-use Rattle.homeo_core.proofs.GatheredSites.{states_count, length_same}
+use Rattle.homeo_core.proofs.GatheredSites.{states_count}
 use Rattle.homeo_core.proofs.InRounds.{at_round, all_fit}
 use Rattle.homeo_core.proofs.OpenRound.{first_within, whole_within}
 use Rattle.homeo_core.proofs.rounds.close_round.Goals as goal
@@ -105,7 +105,7 @@ unfolding definitions
 install_all-requires-clause-segments c =
     let w = plain_workload c.args.c.now.value in
     ap (λ (p : PreparedValue). length p.segments) c.in_ok-prepared.ensures
-    ∙ length_same (sites_of w) []
+    ∙ length-replicate (sites_of w) []
     ∙ sym c.requires.joined.round.count ∙ states_count c.args.sites.now
 
 pub install_all-requires-clause-waiting : goal.install_all-requires-clause-waiting

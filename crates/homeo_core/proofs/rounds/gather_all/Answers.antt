@@ -1,13 +1,14 @@
 use Rattle.std.proofs.Common.{◌≡◌, ℕ, suc, ◌+◌, Some, length, take, sym, ap, subst, ◌∙◌, arith, FitsSigned}
 use Rattle.std.specs.Int.{w64}
 use Rattle.std.specs.Prelude.{slice_get, All}
+use Rattle.homeo_lemmas.proofs.Lists.{take_whole}
 use Rattle.homeo_site.specs.SiteView.{SiteValue}
 use Rattle.homeo_round.specs.GatherView.{GatherValue}
 use Rattle.homeo_round.specs.PlusDeltas.{plus_deltas}
 use Rattle.homeo_core.specs.Key.{definitions}
 use Rattle.homeo_core.specs.Joined.{gathered}
 use Rattle.homeo_core.specs.SiteLists.{states}
-use Rattle.homeo_core.proofs.GatheredSites.{states_at, states_count, gathered_next, take_whole}
+use Rattle.homeo_core.proofs.GatheredSites.{states_at, states_count, gathered_next}
 use Rattle.homeo_core.proofs.rounds.gather_all.Goals as goal
 
 pub loop-site-init : goal.loop-site-init

@@ -1,14 +1,14 @@
 use Rattle.std.proofs.Common.{◌≡◌, ℕ, suc, ◌+◌, true, false, Bool, Some, List, length, map, replicate, get_or, refl, sym, ap, ◌∙◌, arith, slice_set}
 use Rattle.std.specs.Prelude.{slice_get}
-use Rattle.std.proofs.lemmas.List.{length-map}
-use Rattle.homeo_history.proofs.Lists.{get_map}
+use Rattle.std.proofs.lemmas.List.{length-map, length-replicate}
+use Rattle.homeo_lemmas.proofs.Places.{get_map}
 use Rattle.homeo_site.specs.SiteState.{SiteState, renewed}
 use Rattle.homeo_site.specs.SiteView.{SiteValue}
 use Rattle.homeo_core.specs.Key.{definitions}
 use Rattle.homeo_core.specs.PreparedView.{PreparedValue}
 use Rattle.homeo_core.specs.Joined.{segments_of}
 use Rattle.homeo_core.specs.SiteLists.{states, first_from}
-use Rattle.homeo_core.proofs.GatheredSites.{turn, from_next, from_at, from_all, states_set, states_count, all_set, same_in, length_same}
+use Rattle.homeo_core.proofs.GatheredSites.{turn, from_next, from_at, from_all, states_set, states_count, all_set, same_in}
 use Rattle.homeo_core.proofs.rounds.install_all.Goals as goal
 
 pub loop-i-init : goal.loop-i-init
@@ -108,10 +108,10 @@ returns-clause-prepared c =
     let segments : first_from p.segments (segments_of old) c.loop-i.i ≡ segments_of old =
     ap (first_from p.segments (segments_of old)) (end ∙ sym c.requires.segments)
     ∙ from_all p.segments (segments_of old) (c.requires.segments ∙ sym count ∙ sym (length-map old (λ (y : SiteState). y.segment))) in
-    let waits : length p.waiting ≡ n = ap length c.requires.waiting ∙ length_same n true in
+    let waits : length p.waiting ≡ n = ap length c.requires.waiting ∙ length-replicate n true in
     let waiting : first_from p.waiting (replicate (length old) false) c.loop-i.i ≡ replicate n false =
     ap (first_from p.waiting (replicate (length old) false)) (end ∙ sym waits)
-    ∙ from_all p.waiting (replicate (length old) false) (waits ∙ sym count ∙ sym (length_same (length old) false))
+    ∙ from_all p.waiting (replicate (length old) false) (waits ∙ sym count ∙ sym (length-replicate (length old) false))
     ∙ ap (λ m. replicate m false) count in
     c.loop-i.invariant.prepared
     ∙ (λ j. record {

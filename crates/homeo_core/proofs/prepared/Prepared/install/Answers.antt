@@ -7,8 +7,9 @@ use Rattle.homeo_history.specs.HistoryView.{plain_segment, plain_closing}
 use Rattle.homeo_history.proofs.Lists.{length_set}
 use Rattle.std.proofs.Common.{◌≡◌, true, Some, subst, sym, ◌∙◌, ℕ, suc, false, map, ap, slice_set}
 use Rattle.std.specs.Prelude.{slice_get}
+use Rattle.homeo_lemmas.proofs.Places.{map_set}
 use Rattle.homeo_core.specs.PreparedView.{PreparedValue}
-use Rattle.homeo_core.proofs.StartsOfSites.{no_start, start_there, starts_less, map_set}
+use Rattle.homeo_core.proofs.StartsOfSites.{no_start, start_there, starts_less}
 use Rattle.homeo_core.proofs.prepared.Prepared.install.Goals as goal
 
 pub unreachable-requires : goal.unreachable-requires
