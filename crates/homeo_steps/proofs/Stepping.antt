@@ -2,7 +2,7 @@
 use Rattle.std.proofs.Common.{◌≡◌, ◌≢◌, ◌<◌, ◌≤◌, ◌+◌, ◌∙◌, ◌++◌, ◌==◌, ℕ, suc, Bool, true, false, cond, List, [], ◌∷◌, length, map, get_or, refl, sym, ap, subst, arith, take, drop}
 use Rattle.std.proofs.lemmas.Grind.{common_steps, get_or-set_at, same_number_lists}
 use Rattle.std.proofs.lemmas.List.{length-map, length-replicate, get_or-map, get_or-set_other, take-append-drop}
-use Rattle.std.proofs.lemmas.Option.{slice_get-get_or}
+use Rattle.std.proofs.lemmas.Option.{slice_get-get_or, same_Some}
 use Rattle.std.proofs.Math.ListN.{length-set}
 use Rattle.std.proofs.lemmas.Bool.{eqb-false}
 use Rattle.std.proofs.lemmas.Bool.Decides.{Decides-eqb}
@@ -26,7 +26,7 @@ use Rattle.homeo_order.specs.Key.{definitions}
 use Rattle.homeo_order.specs.Order.{calls_from, client_names, order_of, scheduled_calls}
 use Rattle.homeo_order.specs.Scheduled.{IsWholeOrder}
 use Rattle.homeo_steps.specs.inner.Stepped.{HasMade}
-use Rattle.homeo_order.proofs.Scheduling.{calls_from-snoc, named_there, times-snoc, has_left, past_the_last, some_is}
+use Rattle.homeo_order.proofs.Scheduling.{calls_from-snoc, named_there, times-snoc, has_left, past_the_last}
 
 -- ---- the counts
 -- the places of two names are equal where the names are
@@ -147,7 +147,7 @@ unfolding calls_each
 count_at w counts k order less counted None is = absurd (omega (arith, past_the_last w.clients k is, less))
 count_at w counts k order less counted (Some c) is =
     let here : place_of (client_names w) c.name.name ≡ k = order.placed k c is in
-    let there : get_or w.clients k c ≡ c = some_is _ _ (sym (slice_get-get_or w.clients k c less) ∙ is) in
+    let there : get_or w.clients k c ≡ c = same_Some _ _ (sym (slice_get-get_or w.clients k c less) ∙ is) in
     ap (λ (j : ℕ). slice_index_or counts j 0) (sym here) ∙ counted c.name.name (omega (arith, here, less)) ∙ order.whole k c is
     ∙ ap (λ (c : s.Client). length c.calls) (sym there) ∙ sym (get_or-map (λ (c : s.Client). length c.calls) w.clients k c 0 less)
 
