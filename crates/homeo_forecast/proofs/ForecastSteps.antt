@@ -1,7 +1,8 @@
 -- What is kept of a list of calls gives its forecast.
-use Rattle.std.proofs.Common.{◌≡◌, ℕ, ◌+◌, ◌<◌, ◌≤◌, true, List, [], ◌∷◌, ◌++◌, length, get_or, take, replicate, slice_get, ℤ, pos, Option, Some, None, is_some, option_map, refl, sym, ap, ◌∙◌, subst, arith}
+use Rattle.std.proofs.Common.{◌≡◌, ℕ, ◌+◌, ◌<◌, ◌≤◌, true, List, [], ◌∷◌, ◌++◌, length, get_or, take, replicate, ℤ, pos, Option, Some, None, is_some, option_map, refl, sym, ap, ◌∙◌, subst, arith}
 use Rattle.std.proofs.lemmas.List.{take_more}
 use Rattle.std.proofs.lemmas.Option.{slice_get-get_or}
+use Rattle.homeo_lemmas.proofs.Lists.{take_past}
 use Rattle.homeo_syntax.specs.Source as s
 use Rattle.homeo_meaning.specs.declared.call.CallId.{CallId}
 use Rattle.homeo_meaning.specs.Acceptance.{IsAccepted}
@@ -25,7 +26,6 @@ use Rattle.homeo_forecast.specs.inner.Rooms.{AreRooms, HaveRooms}
 use Rattle.homeo_forecast.proofs.Peaks.{served_peaks}
 use Rattle.homeo_forecast.proofs.Prefixes.{forecasts_stand}
 use Rattle.homeo_forecast.proofs.ReplayLists.{begun}
-use Rattle.homeo_forecast.proofs.Lists.{all_taken}
 
 -- ---- the base of a plan
 pub based : (w : s.Workload) (base : List ℤ) (p : ObjectPlan) → IsObjectPlan w base p → IsObjectPlan w p.base.items p
@@ -41,9 +41,6 @@ begun_at w p r accepted h lists rooms =
     (subst (λ (t : Template). HaveRooms p.outline.value.sites [] t.clauses r.rooms.items) h.template rooms))
 
 -- ---- a list
-there : {X : Type 0} (xs : List X) (n : ℕ) (d : X) → n < length xs → slice_get xs n ≡ Some (get_or xs n d)
-there xs n d lt = slice_get-get_or xs n d lt
-
 module _ (w : s.Workload) (base : List ℤ) (calls : List CallId) (accepted : IsAccepted w) (exist : Each (λ call. CallExists w call) calls) where
   abbrev k : ℕ
   k = sites_of w
@@ -79,14 +76,14 @@ module _ (w : s.Workload) (base : List ℤ) (calls : List CallId) (accepted : Is
       go None q e = cc
       go (Some f) q e =
           subst (λ c. IsForecast w base calls n c (Some (plain_stop f))) (sym config_is)
-          ((forecasts_stand w base calls n accepted exist h.served (omega (arith, lt))).1 (get_or calls n d) (plain_stop f) (there calls n d lt) (sym e))
+          ((forecasts_stand w base calls n accepted exist h.served (omega (arith, lt))).1 (get_or calls n d) (plain_stop f) (slice_get-get_or calls n d lt) (sym e))
 
   pub all_kept :
       (n : ℕ) (r : Replay) (config : Config) → length calls ≤ n → IsReplay w base (take n calls) r →
       ((j : ℕ) (vs : List Visit) (cs : List Clause) → HaveRooms j vs cs r.rooms.items → config ≡ peak_config j vs cs) →
       IsForecast w base calls (length calls) config None
   all_kept n r config le h bounds =
-      let same : take n calls ≡ take (length calls) calls = all_taken calls n le ∙ sym (all_taken calls (length calls) (omega arith)) in
+      let same : take n calls ≡ take (length calls) calls = take_past calls n le ∙ sym (take_past calls (length calls) (omega arith)) in
       let whole : IsReplay w base (take (length calls) calls) r = subst (λ cs. IsReplay w base cs r) same h in
       subst (λ c. IsForecast w base calls (length calls) c None) (sym (bounds k (visits w base (take (length calls) calls)) t.clauses whole.rooms))
       ((forecasts_stand w base calls (length calls) accepted exist whole.served (omega arith)).0 refl)

@@ -6,6 +6,8 @@ use Rattle.std.specs.Int.{int_max}
 use Rattle.std.specs.Ordering.{int_eq}
 use Rattle.std.proofs.lemmas.Int.{ints}
 use Rattle.std.proofs.lemmas.Bool.Decides.{nat_tests}
+use Rattle.homeo_lemmas.proofs.Integers.{int_is, at_most, not_at_most, int_is_not}
+use Rattle.homeo_lemmas.proofs.Options.{some_not_none}
 use Rattle.homeo_plan.specs.Each.{Each}
 use Rattle.homeo_plan.specs.Joined.{Deltas}
 use Rattle.homeo_plan.specs.declared.forms.Delta.{Delta}
@@ -15,6 +17,7 @@ use Rattle.homeo_plan.specs.Config.{Config, total, FitsOne, Fits}
 use Rattle.homeo_plan.specs.Treaty.{site_sum, bound_at, KeepsClauses, KeepsFreezes, Treaty}
 use Rattle.homeo_plan.proofs.Atoms.{each_append, append_each}
 use Rattle.homeo_plan.proofs.Covering.{each_map}
+use Rattle.homeo_plan.proofs.OwnWithin.{bound_not_negative}
 use Rattle.homeo_forecast.specs.Forecast.{Serves, IsServed}
 use Rattle.homeo_forecast.specs.Peaks.{peak, peaks_from, peaks, peak_bounds, peak_config, PeaksFit, KeepFreezes, Stop, Spent, Frozen, frozen_from, stop_from}
 use Rattle.homeo_forecast.specs.Visits.{Visit}
@@ -81,12 +84,6 @@ peak_least ts i (v ∷ vs) n low h = go (v.site == i) refl (peak_least ts i vs n
     go false e r = r
 
 -- ---- bounds
-bound_positive : (ns : List ℤ) (i : ℕ) → Each (λ n. pos 0 ≤ℤ n) ns → pos 0 ≤ℤ bound_at ns i
-unfolding definitions meaning_definitions
-bound_positive [] i h = omega (arith, ints)
-bound_positive (n ∷ ns) zero h = h.0
-bound_positive (n ∷ ns) (suc i) h = bound_positive ns i h.1
-
 total_below :
     (ts : List Term) (vs : List Visit) (ns : List ℤ) (i : ℕ) → ((j m : ℕ) → m ≡ i + j → peak ts m vs ≤ℤ bound_at ns j) →
     total (peaks_from ts vs i (length ns)) ≤ℤ total ns
@@ -103,7 +100,7 @@ clause_fits :
     Each (λ v. site_sum v.site c.terms v.deltas ≤ℤ bound_at b v.site) vs → total (peaks k vs c) ≤ℤ c.slack
 unfolding definitions meaning_definitions
 clause_fits k vs c b fits keeps =
-    let below = total_below c.terms vs b 0 (λ j m e. peak_least c.terms m vs (bound_at b j) (bound_positive b j fits.not_negative)
+    let below = total_below c.terms vs b 0 (λ j m e. peak_least c.terms m vs (bound_at b j) (bound_not_negative b j fits.not_negative)
     (each_map (λ (v : Visit). site_sum v.site c.terms v.deltas ≤ℤ bound_at b v.site) (λ (v : Visit). v.site ≡ m → site_sum m c.terms v.deltas ≤ℤ bound_at b j)
     (λ v h at. let there : v.site ≡ j = omega arith in subst (λ n. site_sum n c.terms v.deltas ≤ℤ bound_at b j) at (subst (λ n. site_sum v.site c.terms v.deltas ≤ℤ bound_at b n) there h)) vs keeps)) in
     subst (λ n. total (peaks_from c.terms vs 0 n) ≤ℤ c.slack) fits.count (subst (λ n. total (peaks_from c.terms vs 0 (length b)) ≤ℤ n) fits.sums below)
@@ -239,21 +236,6 @@ record Tells (P : Type 0) (o : Option Stop) : Type 0 where
   none : o ≡ None → P
   some : (b : Stop) → o ≡ Some b → P → ⊥
 
-some_not_none : {X : Type 0} (x : X) → Some x ≡ None → ⊥
-some_not_none x e = cc
-
-at_most : (a b : ℤ) → int_le a b ≡ true → a ≤ℤ b
-at_most a b e = omega (arith, ints, e)
-
-not_at_most : (a b : ℤ) → int_le a b ≡ false → a ≤ℤ b → ⊥
-not_at_most a b e h = omega (arith, ints, e)
-
-equal : (a b : ℤ) → int_eq a b ≡ true → a ≡ b
-equal a b e = grind (arith, ints)
-
-unequal : (a b : ℤ) → int_eq a b ≡ false → a ≡ b → ⊥
-unequal a b e h = grind (arith, ints)
-
 frozen_tells : (n i : ℕ) (x : Deltas) (ds : List Delta) → Tells (KeepsFreezes i x ds) (frozen_from n i x ds)
 unfolding definitions meaning_definitions
 frozen_tells n i x [] = record { none = λ e. tt; some = λ f e h. some_not_none f (sym e) }
@@ -269,9 +251,9 @@ frozen_tells n i x (d ∷ ds) = go (frozen_tells (suc n) i x ds) (d.site == i) (
     go rest false v p q =
         record { none = λ e. (λ s. absurd (grind (arith, nat_tests)), rest.none e); some = λ f e h. rest.some f e h.1 }
     go rest true true p q =
-        record { none = λ e. (λ s. equal (x d.object) (pos 0) q, rest.none e); some = λ f e h. rest.some f e h.1 }
+        record { none = λ e. (λ s. int_is (x d.object) (pos 0) q, rest.none e); some = λ f e h. rest.some f e h.1 }
     go rest true false p q =
-        record { none = λ e. absurd (some_not_none one e); some = λ f e h. unequal (x d.object) (pos 0) q (h.0 (grind (arith, nat_tests))) }
+        record { none = λ e. absurd (some_not_none one e); some = λ f e h. int_is_not (x d.object) (pos 0) q (h.0 (grind (arith, nat_tests))) }
 
 stop_tells :
     (n k : ℕ) (vs : List Visit) (v : Visit) (cs : List Clause) (ds : List Delta) →

@@ -1,17 +1,19 @@
 -- The peaks of a clause after one visit more.
 use Rattle.homeo_meaning.specs.Key.{definitions as meaning_definitions}
 use Rattle.homeo_plan.specs.Key.{definitions}
-use Rattle.std.proofs.Common.{◌≡◌, ℕ, zero, suc, ◌+◌, ◌<◌, ◌==◌, Bool, true, false, cond, List, [], ◌∷◌, ◌++◌, length, ℤ, pos, int_lt, ◌+ℤ◌, ◌-ℤ◌, ◌*ℤ◌, ◌≤ℤ◌, refl, sym, ap, ap₂, ◌∙◌, arith, slice_index_or}
+use Rattle.std.proofs.Common.{◌≡◌, ℕ, zero, suc, ◌+◌, ◌<◌, ◌==◌, Bool, true, false, cond, List, [], ◌∷◌, ◌++◌, length, ℤ, pos, int_lt, ◌+ℤ◌, ◌-ℤ◌, ◌≤ℤ◌, refl, sym, ap, ap₂, ◌∙◌, arith, slice_index_or}
 use Rattle.std.proofs.Math.ListN.{set}
 use Rattle.std.specs.Int.{int_max}
 use Rattle.std.proofs.lemmas.Int.{ints}
 use Rattle.std.proofs.lemmas.Bool.Decides.{nat_tests}
+use Rattle.homeo_lemmas.proofs.Integers.{at_most_both}
 use Rattle.homeo_plan.specs.Joined.{Deltas}
 use Rattle.homeo_plan.specs.declared.forms.Term.{Term}
 use Rattle.homeo_plan.specs.Template.{Clause}
 use Rattle.homeo_plan.specs.Config.{total}
 use Rattle.homeo_plan.specs.Local.{no_deltas}
 use Rattle.homeo_plan.specs.Treaty.{site_sum}
+use Rattle.homeo_plan.proofs.OwnWithin.{site_sum_zero}
 use Rattle.homeo_forecast.specs.Peaks.{peak, peaks_from, peaks}
 use Rattle.homeo_forecast.specs.Visits.{Visit, after, after_all}
 use Rattle.homeo_forecast.proofs.Peaks.{max_below, max_left, max_right, peak_positive}
@@ -19,14 +21,11 @@ use Rattle.homeo_forecast.proofs.Peaks.{max_below, max_left, max_right, peak_pos
 pub antisym : (a b : ℤ) → a ≤ℤ b → b ≤ℤ a → a ≡ b
 antisym a b h k = omega (arith, ints)
 
-pub trans : (a b c : ℤ) → a ≤ℤ b → b ≤ℤ c → a ≤ℤ c
-trans a b c h k = omega (arith, ints)
-
 max_swap : (a b c : ℤ) → int_max a (int_max b c) ≡ int_max b (int_max a c)
 max_swap a b c =
     let left : (x y z : ℤ) → int_max x (int_max y z) ≤ℤ int_max y (int_max x z) = λ x y z.
-    max_below x (int_max y z) (int_max y (int_max x z)) (trans x (int_max x z) (int_max y (int_max x z)) (max_left x z) (max_right y (int_max x z)))
-    (max_below y z (int_max y (int_max x z)) (max_left y (int_max x z)) (trans z (int_max x z) (int_max y (int_max x z)) (max_right x z) (max_right y (int_max x z)))) in
+    max_below x (int_max y z) (int_max y (int_max x z)) (at_most_both x (int_max x z) (int_max y (int_max x z)) (max_left x z) (max_right y (int_max x z)))
+    (max_below y z (int_max y (int_max x z)) (max_left y (int_max x z)) (at_most_both z (int_max x z) (int_max y (int_max x z)) (max_right x z) (max_right y (int_max x z)))) in
     antisym (int_max a (int_max b c)) (int_max b (int_max a c)) (left a b c) (left b a c)
 
 -- ---- one visit more
@@ -119,18 +118,6 @@ peaks_idle k vs v c lt low =
         go false e = refl
 
 -- ---- the last deltas of a site
-zero_sum : (i : ℕ) (ts : List Term) → site_sum i ts no_deltas ≡ pos 0
-unfolding definitions
-zero_sum i [] = refl
-zero_sum i (t ∷ ts) = go (t.delta.site == i) (zero_sum i ts)
-  where
-    times : (z : ℤ) → z *ℤ pos 0 ≡ pos 0
-    times z = omega (arith, ints)
-
-    go : (b : Bool) → site_sum i ts no_deltas ≡ pos 0 → cond b (t.factor *ℤ pos 0) (pos 0) +ℤ site_sum i ts no_deltas ≡ pos 0
-    go true h = let z = times t.factor in omega (arith, ints, z, h)
-    go false h = omega (arith, ints, h)
-
 last_below :
     (ts : List Term) (i : ℕ) (d : ℕ → Deltas) (vs : List Visit) (n : ℤ) → site_sum i ts (d i) ≤ℤ n → peak ts i vs ≤ℤ n →
     site_sum i ts (after_all d vs i) ≤ℤ n
@@ -139,16 +126,16 @@ last_below ts i d [] n h low = h
 last_below ts i d (v ∷ vs) n h low = last_below ts i (after d v) vs n (new (v.site == i) low) (rest (v.site == i) low)
   where
     new : (b : Bool) → cond b (int_max (site_sum i ts v.deltas) (peak ts i vs)) (peak ts i vs) ≤ℤ n → site_sum i ts (cond b v.deltas (d i)) ≤ℤ n
-    new true g = trans (site_sum i ts v.deltas) (int_max (site_sum i ts v.deltas) (peak ts i vs)) n (max_left (site_sum i ts v.deltas) (peak ts i vs)) g
+    new true g = at_most_both (site_sum i ts v.deltas) (int_max (site_sum i ts v.deltas) (peak ts i vs)) n (max_left (site_sum i ts v.deltas) (peak ts i vs)) g
     new false g = h
 
     rest : (b : Bool) → cond b (int_max (site_sum i ts v.deltas) (peak ts i vs)) (peak ts i vs) ≤ℤ n → peak ts i vs ≤ℤ n
-    rest true g = trans (peak ts i vs) (int_max (site_sum i ts v.deltas) (peak ts i vs)) n (max_right (site_sum i ts v.deltas) (peak ts i vs)) g
+    rest true g = at_most_both (peak ts i vs) (int_max (site_sum i ts v.deltas) (peak ts i vs)) n (max_right (site_sum i ts v.deltas) (peak ts i vs)) g
     rest false g = g
 
 -- the sum over what a site has after visits isn't above its peak
 pub last_low : (ts : List Term) (i : ℕ) (vs : List Visit) → site_sum i ts (after_all (λ j. no_deltas) vs i) ≤ℤ peak ts i vs
 last_low ts i vs =
-    let zero = zero_sum i ts in
+    let zero = site_sum_zero i ts in
     let high = peak_positive ts i vs in
     last_below ts i (λ j. no_deltas) vs (peak ts i vs) (omega (arith, ints, zero, high)) (omega (arith, ints))

@@ -1,10 +1,11 @@
 -- What is kept as calls are replayed: at the start, and after one call more.
-use Rattle.std.proofs.Common.{◌≡◌, ⊎_elim, ℕ, zero, suc, ◌+◌, ◌<◌, ◌≤◌, ◌==◌, Bool, true, false, cond, List, [], ◌∷◌, ◌++◌, map, length, get_or, take, replicate, ℤ, pos, refl, sym, ap, ap₂, ◌∙◌, subst, arith}
+use Rattle.std.proofs.Common.{◌≡◌, ⊎_elim, ℕ, ◌+◌, ◌<◌, ◌≤◌, ◌==◌, Bool, true, false, cond, List, [], ◌∷◌, ◌++◌, map, length, get_or, take, replicate, ℤ, pos, refl, sym, ap, ap₂, ◌∙◌, subst, arith}
 use mathlib.Core.Path.{fun_ext}
 use Rattle.std.proofs.Math.ListN.{set}
-use Rattle.std.proofs.lemmas.Bool.{cases_lt}
+use Rattle.std.proofs.lemmas.Bool.{cases_lt, cases_eq}
 use Rattle.std.proofs.lemmas.Bool.Decides.{nat_tests}
-use Rattle.std.proofs.lemmas.List.{take_more, map-append, length-append, length-replicate, get_or_append_left, get_or-append-add}
+use Rattle.std.proofs.lemmas.List.{take_more, map-append, length-append, length-replicate, get_or_append_left, get_or-append-add, length-set, get_or-set_same, get_or-replicate}
+use Rattle.homeo_lemmas.proofs.Places.{zeros_at}
 use Rattle.homeo_syntax.specs.Listed.{Listed}
 use Rattle.homeo_syntax.specs.Source as s
 use Rattle.homeo_meaning.specs.declared.call.CallId.{CallId}
@@ -26,9 +27,7 @@ use Rattle.homeo_forecast.specs.declared.rooms.Room.{Room}
 use Rattle.homeo_forecast.specs.inner.Replays.{site_lists, AreDeltas, IsReplay}
 use Rattle.homeo_forecast.specs.inner.Rooms.{HasRoom, HaveRooms}
 use Rattle.homeo_forecast.proofs.Prefixes.{next_is}
-use Rattle.homeo_forecast.proofs.Lists.{set_count, set_here, set_apart, same_number, same_there}
-
--- ---- lists, one item more at a time
+use Rattle.homeo_forecast.proofs.Lists.{set_apart}
 
 -- ---- rooms
 pub no_rooms : (k : ℕ) (vs : List Visit) (rs : List Room) → rs ≡ [] → HaveRooms k vs [] rs
@@ -81,11 +80,6 @@ one_bounds k vs cs idx d old new b lt so_far are e =
     ∙ ap₂ (λ l m. l ++ m ∷ []) so_far are ∙ sym (ap (peak_config k vs) (take_more cs idx d lt) ∙ config_append k vs (take idx cs) (get_or cs idx d))
 
 -- ---- the start
-zeros_at : (n x : ℕ) → get_or (replicate n (pos 0)) x (pos 0) ≡ pos 0
-zeros_at zero x = refl
-zeros_at (suc n) zero = refl
-zeros_at (suc n) (suc x) = zeros_at n x
-
 zeros_are : (n : ℕ) → values_of (replicate n (pos 0)) ≡ no_deltas
 unfolding plan_definitions
 zeros_are n = fun_ext (λ x. zeros_at n x)
@@ -99,7 +93,7 @@ begun w base r accepted lists rooms = record {
   served = record { config = policy w base; fits = policy_fits w base accepted; serves = tt };
   sites = ap length lists ∙ length-replicate (sites_of w) (replicate (length base) (pos 0));
   deltas = λ i lt.
-      subst (AreDeltas base no_deltas) (sym (ap (λ l. get_or l i []) lists ∙ same_there (sites_of w) i (replicate (length base) (pos 0)) [] lt))
+      subst (AreDeltas base no_deltas) (sym (ap (λ l. get_or l i []) lists ∙ get_or-replicate (sites_of w) i (replicate (length base) (pos 0)) [] lt))
       (record { count = length-replicate (length base) (pos 0); are = zeros_are (length base) });
   rooms = rooms;
 }
@@ -125,7 +119,7 @@ module _
 
     one_site : (i : ℕ) → i < sites_of w → AreDeltas base (after x v i) (get_or (site_lists new) i [])
     unfolding plan_definitions
-    one_site i lt = subst (AreDeltas base (after x v i)) (sym (ap (λ l. get_or l i []) lists)) (⊎_elim here there (same_number i site))
+    one_site i lt = subst (AreDeltas base (after x v i)) (sym (ap (λ l. get_or l i []) lists)) (⊎_elim here there (cases_eq i site))
       where
         here : i ≡ site → AreDeltas base (after x v i) (get_or (set (site_lists old) site deltas) i [])
         here e =
@@ -134,7 +128,7 @@ module _
             subst (λ b. AreDeltas base (cond b v.deltas (x i)) (get_or (set (site_lists old) site deltas) i [])) (sym q)
             (subst (AreDeltas base v.deltas)
             (sym (ap (λ j. get_or (set (site_lists old) site deltas) j []) e
-            ∙ set_here (site_lists old) site deltas [] (subst (λ n. site < n) (sym kept.sites) below))) are)
+            ∙ get_or-set_same (site_lists old) site deltas [] (subst (λ n. site < n) (sym kept.sites) below))) are)
 
         there : (i ≡ site → ⊥) → AreDeltas base (after x v i) (get_or (set (site_lists old) site deltas) i [])
         there apart =
@@ -154,7 +148,7 @@ module _
     goes_on = record {
       exist = append_each (λ c. CallExists w c) calls (call ∷ []) kept.exist (exists, tt);
       served = served;
-      sites = ap length lists ∙ set_count (site_lists old) site deltas ∙ kept.sites;
+      sites = ap length lists ∙ length-set (site_lists old) site deltas ∙ kept.sites;
       deltas = λ i lt.
           subst (λ (f : ℕ → Deltas). AreDeltas base (f i) (get_or (site_lists new) i []))
           (sym (ap (after_all (λ j. no_deltas)) (next_is w base calls call) ∙ after_append (λ j. no_deltas) (visits w base calls) v)) (one_site i lt);

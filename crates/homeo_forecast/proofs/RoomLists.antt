@@ -2,6 +2,8 @@
 use Rattle.std.proofs.Common.{◌≡◌, ◌⊎◌, inl, inr, ⊎_elim, ℕ, ◌+◌, ◌<◌, ◌≤◌, List, [], length, get_or, ℤ, pos, ◌+ℤ◌, ◌≤ℤ◌, FitsSigned, sym, ◌∙◌, subst, arith}
 use Rattle.std.specs.Int.{w128}
 use Rattle.std.proofs.Math.ListN.{set}
+use Rattle.std.proofs.lemmas.List.{length-set, get_or-set_same}
+use Rattle.std.proofs.lemmas.Bool.{cases_eq}
 use Rattle.homeo_plan.specs.Key.{definitions as plan_definitions}
 use Rattle.homeo_plan.specs.Config.{total}
 use Rattle.homeo_plan.specs.Template.{Clause}
@@ -14,7 +16,7 @@ use Rattle.homeo_forecast.specs.declared.rooms.Room.{Room}
 use Rattle.homeo_forecast.specs.inner.Raising.{CanTest, CanRaise, EitherRooms, Raises, with_own}
 use Rattle.homeo_forecast.specs.inner.Replays.{CanBound}
 use Rattle.homeo_forecast.specs.inner.Rooms.{HasRoom, HaveRooms, IsOpen}
-use Rattle.homeo_forecast.proofs.Lists.{each_there, set_count, set_here, set_apart, same_number}
+use Rattle.homeo_forecast.proofs.Lists.{each_there, set_apart}
 use Rattle.homeo_forecast.proofs.RoomSteps.{is_open, bound_fits}
 
 -- ---- rooms at their places
@@ -94,23 +96,23 @@ module _ (p : ObjectPlan) (site : ℕ) (deltas : List ℤ) where
         Raises p vs site deltas (λ m. m ≡ n) rs (set rs n r)
     one_raise rs n d r lt has = record {
       either = λ h. record {
-        count = set_count rs n r ∙ h.count;
+        count = length-set rs n r ∙ h.count;
         each = λ m c q below. ⊎_elim
             (λ same. inr (there h m c q same))
             (λ apart. subst (λ x. HasRoom k vs (get_or cs m c) x ⊎ HasRoom k us (get_or cs m c) x) (sym (set_apart rs n m r q apart)) (h.each m c q below))
-            (same_number m n);
+            (cases_eq m n);
       };
       stays = λ m c q h below room. ⊎_elim
           (λ same. there h m c q same)
           (λ apart. subst (HasRoom k us (get_or cs m c)) (sym (set_apart rs n m r q apart)) room)
-          (same_number m n);
+          (cases_eq m n);
       raised = λ m c q h below same. there h m c q same;
     }
       where
         there : EitherRooms p vs site deltas rs → (m : ℕ) (c : Clause) (q : Room) → m ≡ n → HasRoom k us (get_or cs m c) (get_or (set rs n r) m q)
         there h m c q same =
             subst (λ j. HasRoom k us (get_or cs j c) (get_or (set rs n r) j q)) (sym same)
-            (subst (HasRoom k us (get_or cs n c)) (sym (set_here rs n r q (subst (λ j. n < j) (sym h.count) lt))) (has c (h.each n c d lt)))
+            (subst (HasRoom k us (get_or cs n c)) (sym (get_or-set_same rs n r q (subst (λ j. n < j) (sym h.count) lt))) (has c (h.each n c d lt)))
 
     -- one more step, after which more were looked at
     pub more_raised :

@@ -4,9 +4,12 @@ use Rattle.std.specs.Prelude.{IsSome}
 use Rattle.std.specs.Option.{option_and_then, option_map_or}
 use Rattle.std.proofs.Math.ListN.{set}
 use Rattle.std.proofs.lemmas.Bool.Decides.{nat_tests}
-use Rattle.std.proofs.lemmas.List.{length-map, length-append, length-replicate, length-take-le, get_or-map, get_or-append-add, take_more}
+use Rattle.std.proofs.lemmas.List.{length-map, length-append, length-replicate, length-take-le, get_or-map, get_or-append-add, take_more, length-set, get_or-set_same}
 use Rattle.std.proofs.lemmas.List.Sums.{sum_by-cons}
-use Rattle.std.proofs.lemmas.Option.{slice_get-get_or}
+use Rattle.std.proofs.lemmas.Option.{slice_get-get_or, same_Some}
+use Rattle.std.proofs.lemmas.Bool.{cases_eq}
+use Rattle.homeo_lemmas.proofs.Lists.{take_past}
+use Rattle.homeo_lemmas.proofs.Places.{place_some}
 use Rattle.homeo_syntax.specs.Source as s
 use Rattle.homeo_syntax.specs.declared.phrase.Ident.{Ident}
 use Rattle.homeo_meaning.specs.declared.call.CallId.{CallId}
@@ -21,8 +24,8 @@ use Rattle.homeo_history.specs.Key.{definitions as history_definitions}
 use Rattle.homeo_order.specs.Key.{definitions as order_definitions}
 use Rattle.homeo_order.specs.Order.{calls_from, client_names, order_of, scheduled_calls}
 use Rattle.homeo_order.specs.Scheduled.{IsWholeOrder}
-use Rattle.homeo_order.proofs.Scheduling.{named_there, times-snoc, past_the_last, some_is, has_left, calls_from-snoc}
-use Rattle.homeo_forecast.proofs.Lists.{set_count, set_here, set_apart, same_number, all_taken}
+use Rattle.homeo_order.proofs.Scheduling.{named_there, times-snoc, past_the_last, has_left, calls_from-snoc}
+use Rattle.homeo_forecast.proofs.Lists.{set_apart}
 
 -- ---- the client of a name
 pub record ItsClient (w : s.Workload) (n : ℕ) : Type 0 where
@@ -39,7 +42,7 @@ its_client w n lt = go (slice_get w.clients (place_of (client_names w) n)) refl
     go (Some c) e =
         let k = place_of (client_names w) n in
         let many : length (client_names w) ≡ length w.clients = length-map w.clients (λ (d : s.Client). d.name.name) in
-        let there : get_or w.clients k c ≡ c = some_is _ _ (sym (slice_get-get_or w.clients k c lt) ∙ e) in
+        let there : get_or w.clients k c ≡ c = same_Some _ _ (sym (slice_get-get_or w.clients k c lt) ∙ e) in
         record {
           client = c;
           found = e;
@@ -49,11 +52,6 @@ its_client w n lt = go (slice_get w.clients (place_of (client_names w) n)) refl
         }
 
 -- ---- each call is there
-one_there : {X : Type 0} (xs : List X) (n : ℕ) → n < length xs → IsSome (slice_get xs n)
-one_there [] n lt = absurd (omega arith)
-one_there (x ∷ xs) zero lt = refl
-one_there (x ∷ xs) (suc n) lt = one_there xs n (omega arith)
-
 module _ (w : s.Workload) (order : IsWholeOrder w) where
   named_at : (before xs : List Ident) (x : Ident) → before ++ x ∷ xs ≡ order_of w.schedule → place_of (client_names w) x.name < length w.clients
   named_at before xs x whole =
@@ -72,7 +70,7 @@ module _ (w : s.Workload) (order : IsWholeOrder w) where
       let left = has_left w before xs x order whole lt in
       let less : times x.name before < length it.client.calls = subst (λ (o : Option s.Client). times x.name before < option_map_or (λ (c : s.Client). length c.calls) o 0) it.found left in
       subst (λ (o : Option s.Client). IsSome (option_and_then (λ (c : s.Client). numbered (suc (times x.name before)) c.calls) o)) (sym it.found)
-      (one_there it.client.calls (times x.name before) less)
+      (place_some it.client.calls (times x.name before) less)
 
   exist_from : (before xs : List Ident) → before ++ xs ≡ order_of w.schedule → Each (λ call. CallExists w call) (calls_from (client_names w) before xs)
   unfolding plan_definitions order_definitions
@@ -120,18 +118,18 @@ module _ (w : s.Workload) (order : IsWholeOrder w) (before : List Ident) (x : Id
     calls_are =
         are ∙ ap₂ (λ l (c : CallId). l ++ c ∷ []) counted.calls_are (is_call ∙ ap (λ n. record { client = place; seq = n }) (is_next ∙ ap suc count_there))
         ∙ sym (calls_from-snoc (client_names w) [] before x);
-    count = set_count made place next ∙ counted.count;
-    made_are = λ k c found. ⊎_elim (here k c found) (there k c found) (same_number k place);
+    count = length-set made place next ∙ counted.count;
+    made_are = λ k c found. ⊎_elim (here k c found) (there k c found) (cases_eq k place);
   }
     where
       here : (k : ℕ) (c : s.Client) → slice_get w.clients k ≡ Some c → k ≡ place → get_or (set made place next) k 0 ≡ times c.name.name (before ++ x ∷ [])
       here k c found e =
           let it = its_client w x.name lt in
-          let same : c ≡ it.client = some_is c it.client (sym found ∙ ap (slice_get w.clients) e ∙ it.found) in
+          let same : c ≡ it.client = same_Some c it.client (sym found ∙ ap (slice_get w.clients) e ∙ it.found) in
           let name : c.name.name ≡ x.name = ap (λ (d : s.Client). d.name.name) same ∙ it.named in
           let own : (x.name == x.name) ≡ true = grind (arith, nat_tests) in
           let more : times x.name (before ++ x ∷ []) ≡ times x.name before + 1 = times-snoc x.name before x ∙ ap (λ b. times x.name before + cond b 1 0) own in
-          ap (λ j. get_or (set made place next) j 0) e ∙ set_here made place next 0 made_there ∙ is_next ∙ ap suc count_there
+          ap (λ j. get_or (set made place next) j 0) e ∙ get_or-set_same made place next 0 made_there ∙ is_next ∙ ap suc count_there
           ∙ omega (arith, more) ∙ ap (λ n. times n (before ++ x ∷ [])) (sym name)
 
       there : (k : ℕ) (c : s.Client) → slice_get w.clients k ≡ Some c → (k ≡ place → ⊥) → get_or (set made place next) k 0 ≡ times c.name.name (before ++ x ∷ [])
@@ -190,4 +188,4 @@ pub all_counted : (w : s.Workload) (names : List Ident) (i : ℕ) (calls : List 
     HasCounted w (take i names) calls made → calls ≡ scheduled_calls w
 unfolding order_definitions
 all_counted w names i calls made all le counted =
-    counted.calls_are ∙ ap (calls_from (client_names w) []) (all_taken names i le ∙ all)
+    counted.calls_are ∙ ap (calls_from (client_names w) []) (take_past names i le ∙ all)

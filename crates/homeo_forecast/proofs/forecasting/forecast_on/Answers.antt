@@ -1,5 +1,6 @@
 -- What the calls so far leave gives the forecast, where one stops or where they end.
 use Rattle.std.proofs.Common.{List, take, sym, ap, subst}
+use Rattle.homeo_lemmas.proofs.Options.{none_is}
 use Rattle.homeo_syntax.specs.SourceView.{plain_workload}
 use Rattle.homeo_meaning.specs.declared.call.CallId.{CallId}
 use Rattle.homeo_meaning.specs.Calls.{CallExists}
@@ -7,7 +8,6 @@ use Rattle.homeo_forecast.specs.declared.replay.Replay.{Replay}
 use Rattle.homeo_forecast.specs.inner.Replays.{CanBound}
 use Rattle.homeo_forecast.proofs.ForecastSteps.{begun_at, can_bound, kept_on, stopped_there, all_kept}
 use Rattle.homeo_forecast.proofs.Lists.{each_there}
-use Rattle.homeo_forecast.proofs.StopTests.{none_is}
 use Rattle.homeo_forecast.proofs.forecasting.forecast_on.Goals as goal
 
 abbrev none : CallId

@@ -1,9 +1,9 @@
 use Rattle.std.proofs.Common.{◌∙◌, [], ℤ, pos, map, ap, arith}
+use Rattle.homeo_lemmas.proofs.Lists.{take_past}
 use Rattle.homeo_syntax.specs.Listed.{Listed}
 use Rattle.homeo_plan.specs.Template.{Clause}
 use Rattle.homeo_forecast.specs.Peaks.{peak_config}
 use Rattle.homeo_forecast.proofs.ReplayLists.{no_config, one_bounds}
-use Rattle.homeo_forecast.proofs.Lists.{all_taken}
 use Rattle.homeo_forecast.proofs.RoomLists.{room_at, bound_there}
 use Rattle.homeo_forecast.proofs.replay.config_of.Goals as goal
 
@@ -32,4 +32,4 @@ loop-room-preserved c = λ k vs cs rooms.
 
 pub returns : goal.returns
 returns c = λ k vs cs rooms.
-    c.loop-room.invariant k vs cs rooms ∙ ap (peak_config k vs) (all_taken cs c.loop-room.room-index (omega (arith, c.loop-room-test.false, rooms.count)))
+    c.loop-room.invariant k vs cs rooms ∙ ap (peak_config k vs) (take_past cs c.loop-room.room-index (omega (arith, c.loop-room-test.false, rooms.count)))

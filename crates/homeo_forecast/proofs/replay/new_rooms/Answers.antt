@@ -2,13 +2,13 @@
 use Rattle.std.proofs.Common.{◌<◌, ◌∙◌, [], get_or, length, pos, sym, ap, subst, arith, SFits, rules}
 use mir.Syntax.{w128}
 use Rattle.std.proofs.lemmas.Int.{to_z-of_z}
+use Rattle.homeo_lemmas.proofs.Lists.{take_past}
 use Rattle.homeo_plan.specs.Template.{Clause}
 use Rattle.homeo_outline.specs.ObjectPlan.{template_in}
 use Rattle.homeo_outline.specs.Outlined.{Outlined}
 use Rattle.homeo_site.proofs.OwnChecks.{lent_count}
 use Rattle.homeo_site.proofs.PlanClauses.{slack_here}
 use Rattle.homeo_forecast.specs.inner.Rooms.{HasRoom, HaveRooms}
-use Rattle.homeo_forecast.proofs.Lists.{all_taken}
 use Rattle.homeo_forecast.proofs.ReplayLists.{no_rooms, one_room}
 use Rattle.homeo_forecast.proofs.replay.new_rooms.Goals as goal
 
@@ -37,4 +37,4 @@ returns c =
     let p = c.args.plan.now in
     let count = lent_count p c.terms-clause-end.result.now (c.terms-clause-end.ensures ∙ ap (λ (o : Outlined). o.terms) c.deref.ensures) in
     subst (λ cs. HaveRooms p.outline.value.sites [] cs c.loop-clause.rooms.items)
-    (all_taken (template_in p).clauses c.loop-clause.clause (omega (arith, c.loop-clause-test.false, count))) c.loop-clause.invariant
+    (take_past (template_in p).clauses c.loop-clause.clause (omega (arith, c.loop-clause-test.false, count))) c.loop-clause.invariant

@@ -2,12 +2,13 @@
 use Rattle.std.proofs.Common.{◌≡◌, ◌∙◌, length, sym, ap, option_map, arith}
 use Rattle.std.specs.Vec.{with_items}
 use Rattle.std.proofs.lemmas.List.{with_items_is}
+use Rattle.homeo_lemmas.proofs.Options.{none_is}
 use Rattle.homeo_syntax.specs.SourceView.{plain_workload}
 use Rattle.homeo_forecast.specs.View.{plain_stop}
 use Rattle.homeo_forecast.specs.Visits.{visits}
 use Rattle.homeo_forecast.specs.declared.replay.Replay.{Replay}
 use Rattle.homeo_forecast.proofs.CallSteps.{IsCallHere, lent_step, can_test, stop_there, can_raise, raised_count, goes_on_there, site_there}
-use Rattle.homeo_forecast.proofs.StopTests.{none_is, some_is_not}
+use Rattle.homeo_forecast.proofs.StopTests.{some_is_not}
 use Rattle.homeo_forecast.proofs.replay.Replay.call.Goals as goal
 
 pub first_stop-requires : goal.first_stop-requires
