@@ -3,6 +3,7 @@ use Rattle.homeo_meaning.specs.Key.{definitions as meaning_definitions}
 use Rattle.homeo_plan.specs.Key.{definitions as plan_definitions}
 use Rattle.std.proofs.Common.{◌≡◌, Bool, true, false, cond, ℤ, pos, negsuc, ◌+ℤ◌, ◌*ℤ◌, neg_ℤ, refl, ap, ◌∙◌, arith}
 use Rattle.std.proofs.lemmas.Int.{ints}
+use Rattle.homeo_lemmas.proofs.Integers.{plus_turned}
 use Rattle.homeo_syntax.specs.Low.{Expr, Exprs, Literal, OfTemp, Read, Sum, Product, Neg, NoExpr, MoreExpr}
 use Rattle.homeo_meaning.specs.LowMeaning.{value, sum_value, product_value}
 use Rattle.homeo_plan.specs.Linear.{Linear, constant_form, add_forms, scale_form, is_pure, mix_forms, multiply_forms, Forms, form, sum_form, product_form}
@@ -23,9 +24,6 @@ product_constant a b = go (is_pure a) (is_pure b)
 minus_one : (x : ℤ) → negsuc 0 *ℤ x ≡ neg_ℤ x
 minus_one x = omega (arith, ints)
 
-swap : (x y : ℤ) → x +ℤ y ≡ y +ℤ x
-swap x y = omega (arith, ints)
-
 module _ (f : Forms) where
   mutual
     unfolding plan_definitions meaning_definitions
@@ -42,7 +40,7 @@ module _ (f : Forms) where
     sum_constant NoExpr a = refl
     sum_constant (MoreExpr e es) a =
         sum_constant es (add_forms (form f e) a)
-        ∙ ap (λ n. sum_value n es (at_zero f)) (swap (form f e).constant a.constant ∙ ap (λ n. a.constant +ℤ n) (constant_is e))
+        ∙ ap (λ n. sum_value n es (at_zero f)) (plus_turned (form f e).constant a.constant ∙ ap (λ n. a.constant +ℤ n) (constant_is e))
 
     product_is : (es : Exprs) (a : Linear) → (product_form f a es).constant ≡ product_value a.constant es (at_zero f)
     product_is NoExpr a = refl

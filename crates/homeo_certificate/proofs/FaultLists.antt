@@ -5,6 +5,8 @@ use Rattle.homeo_certificate.specs.Key.{definitions}
 use Rattle.std.proofs.Common.{◌≡◌, Bool, true, false, cond, ◌||◌, List, [], ◌∷◌, ◌++◌, neg_ℤ, int_le, ◌≤ℤ◌, refl, sym, subst, true≢false, arith}
 use Rattle.std.proofs.lemmas.Int.{ints}
 use Rattle.std.specs.List.{list_any, flat_map}
+use Rattle.std.proofs.lemmas.Bool.{and_parts}
+use Rattle.homeo_lemmas.proofs.Lists.{not_nil}
 use Rattle.homeo_meaning.specs.LowMeaning.{State}
 use Rattle.homeo_plan.specs.Each.{Each}
 use Rattle.homeo_plan.specs.declared.forms.Delta.{Delta}
@@ -12,18 +14,14 @@ use Rattle.homeo_plan.specs.Linear.{same_delta, Linear, is_empty, terms_value}
 use Rattle.homeo_plan.specs.Template.{Clause, same_terms, clause_of}
 use Rattle.homeo_plan.proofs.Factors.{same_delta_is}
 use Rattle.homeo_plan.proofs.Covering.{same_terms_is}
-use Rattle.homeo_plan.proofs.Atoms.{both_parts}
 use Rattle.homeo_plan.specs.Tracking.{ClauseHolds}
 use Rattle.homeo_certificate.specs.declared.fault.Fault.TheVariants.{NotFrozen, NoClause}
 use Rattle.homeo_certificate.specs.Followed.{Rules, not_frozen, keeps, no_clause}
 
-pub cons_is_some : {X : Type 0} (x : X) (xs : List X) → x ∷ xs ≡ [] → ⊥
-cons_is_some x xs e = cc
-
 -- two lists make none only where both are none
 pub none_of_both : {X : Type 0} (xs ys : List X) → xs ++ ys ≡ [] → (xs ≡ []) × (ys ≡ [])
 none_of_both [] ys e = (refl, e)
-none_of_both (x ∷ xs) ys e = absurd (cons_is_some x (xs ++ ys) e)
+none_of_both (x ∷ xs) ys e = absurd (not_nil x (xs ++ ys) e)
 
 pub none_of_each : {X Y : Type 0} (f : X → List Y) (xs : List X) → flat_map f xs ≡ [] → Each (λ x. f x ≡ []) xs
 unfolding plan_definitions
@@ -32,7 +30,7 @@ none_of_each f (x ∷ xs) e = let p = none_of_both (f x) (flat_map f xs) e in (p
 
 pub is_true_if : {X : Type 0} (b : Bool) (x : X) → cond b [] (x ∷ []) ≡ [] → b ≡ true
 is_true_if true x e = refl
-is_true_if false x e = absurd (cons_is_some x [] e)
+is_true_if false x e = absurd (not_nil x [] e)
 
 -- what holds of each frozen delta holds of one that is found among them
 among : (P : Delta → Type 0) (d : Delta) (ds : List Delta) → list_any (same_delta d) ds ≡ true → Each P ds → P d
@@ -61,7 +59,7 @@ module _ (s : State) (a : Linear) where
   kept_by : (c : Clause) → keeps a c ≡ true → ClauseHolds s c → ClauseHolds s (clause_of a)
   unfolding definitions plan_definitions meaning_definitions
   kept_by c e h =
-      let p = both_parts (same_terms a.terms c.terms) (int_le c.slack (neg_ℤ a.constant)) e in
+      let p = and_parts (same_terms a.terms c.terms) (int_le c.slack (neg_ℤ a.constant)) e in
       let t = same_terms_is a.terms c.terms p.0 in
       let below : terms_value a.terms s ≤ℤ c.slack = subst (λ ts. terms_value ts s ≤ℤ c.slack) (sym t) h in
       grind (arith, ints, below, p.1)

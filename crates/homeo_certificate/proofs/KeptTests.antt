@@ -5,6 +5,8 @@ use Rattle.homeo_certificate.specs.Key.{definitions}
 use Rattle.std.proofs.Common.{◌≡◌, Bool, true, false, cond, not, ◌&&◌, List, [], ◌∷◌, pos, ◌+ℤ◌, ◌≤ℤ◌, neg_ℤ, int_lt, refl, sym, ap, ap₂, ◌∙◌, true≢false, arith}
 use Rattle.std.proofs.lemmas.Int.{ints}
 use Rattle.std.specs.List.{flat_map}
+use Rattle.std.proofs.lemmas.Bool.{not-true, not-false, and_parts}
+use Rattle.homeo_lemmas.proofs.Bools.{and_false}
 use Rattle.homeo_syntax.specs.declared.phrase.Compare.{Compare}
 use Rattle.homeo_syntax.specs.declared.phrase.Compare.TheVariants.{Less, LessEqual, Equal}
 use Rattle.homeo_syntax.specs.Low.{Expr, Test, Cond, True, Not, Comparison, NoTest, MoreTest}
@@ -16,7 +18,7 @@ use Rattle.homeo_plan.specs.declared.forms.Term.{Term}
 use Rattle.homeo_plan.specs.Linear.{Linear, Forms, form, terms_value, is_empty, IsZeroAt}
 use Rattle.homeo_plan.specs.Atoms.{true_comparison, false_comparison}
 use Rattle.homeo_plan.specs.Tracking.{Is, IsBelowAtBase, ClauseHolds}
-use Rattle.homeo_plan.proofs.Atoms.{true_comparison_holds, false_comparison_holds, true_below, false_below, not_true, not_false, both_parts, never, each_append}
+use Rattle.homeo_plan.proofs.Atoms.{true_comparison_holds, false_comparison_holds, true_below, false_below, each_append}
 use Rattle.homeo_certificate.specs.Met.{at_zero}
 use Rattle.homeo_certificate.specs.Kept.{Atom, atom, form_of, kept_true, kept_false, true_test, true_cond, false_test, false_cond, kept}
 use Rattle.homeo_certificate.specs.Followed.{Rules, not_frozen, no_clause, atom_faults}
@@ -92,14 +94,14 @@ module _ (r : Rules) (s : State) (meets : Meets r s) where
 
       true_test_stays : (t : Test) → passes t (at_zero f) ≡ true → Each Keeps (true_test f t) → passes t u ≡ true
       true_test_stays True e h = refl
-      true_test_stays (Not c) e h = ap not (false_cond_stays c (not_true (holds c (at_zero f)) e) h)
+      true_test_stays (Not c) e h = ap not (false_cond_stays c (not-true (holds c (at_zero f)) e) h)
       true_test_stays (Comparison op x y) e h =
           true_comparison_holds op (form f x) (form f y) s (value x u) (value y u) (is x) (is y)
           (kept_true_holds op (form f x) (form f y) (sym (at_base op x y) ∙ e) h)
 
       false_test_stays : (t : Test) → passes t (at_zero f) ≡ false → Each Keeps (false_test f t) → passes t u ≡ false
       false_test_stays True e h = e
-      false_test_stays (Not c) e h = ap not (true_cond_stays c (not_false (holds c (at_zero f)) e) h)
+      false_test_stays (Not c) e h = ap not (true_cond_stays c (not-false (holds c (at_zero f)) e) h)
       false_test_stays (Comparison op x y) e h =
           false_comparison_holds op (int_lt (form f x).constant (form f y).constant) (form f x) (form f y) s (value x u) (value y u) (is x) (is y)
           (kept_false_holds op (form f x) (form f y) (sym (at_base op x y) ∙ e) h)
@@ -108,7 +110,7 @@ module _ (r : Rules) (s : State) (meets : Meets r s) where
       true_cond_stays NoTest e h = refl
       true_cond_stays (MoreTest t c) e h =
           let k = each_append Keeps (true_test f t) (true_cond f c) h in
-          let m = both_parts (passes t (at_zero f)) (holds c (at_zero f)) e in
+          let m = and_parts (passes t (at_zero f)) (holds c (at_zero f)) e in
           ap₂ (λ u v. (u && v)) (true_test_stays t m.0 k.0) (true_cond_stays c m.1 k.1)
 
       false_cond_stays : (c : Cond) → holds c (at_zero f) ≡ false → Each Keeps (false_cond f c) → holds c u ≡ false
@@ -121,7 +123,7 @@ module _ (r : Rules) (s : State) (meets : Meets r s) where
               (passes t (at_zero f) ≡ false → Each Keeps (false_test f t) → passes t u ≡ false) →
               (v && holds c (at_zero f)) ≡ false → Each Keeps (cond v (false_cond f c) (false_test f t)) →
               (passes t u && holds c u) ≡ false
-          first_false true q hc ht e h = ap (λ w. passes t u && w) (hc e h) ∙ never (passes t u)
+          first_false true q hc ht e h = ap (λ w. passes t u && w) (hc e h) ∙ and_false (passes t u)
           first_false false q hc ht e h = ap (λ w. w && holds c u) (ht q h)
 
     -- a condition without faults

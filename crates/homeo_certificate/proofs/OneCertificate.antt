@@ -6,6 +6,7 @@ use Rattle.std.specs.Prelude.{codes}
 use Rattle.std.specs.Str.{bytes_eq}
 use Rattle.serde_json.specs.Data.{Num, unsigned, negative, float, Data, null, number, string, array, object, Items, no_items, item, Members, no_members, member}
 use Rattle.serde_json.specs.View.{items_of}
+use Rattle.homeo_lemmas.proofs.Lists.{cons_head, cons_tail}
 use Rattle.homeo_syntax.specs.declared.phrase.Compare.TheVariants.{Less, LessEqual, Equal}
 use Rattle.homeo_syntax.specs.declared.low.Temp.TheVariants.{Named, Fresh}
 use Rattle.homeo_meaning.specs.Schema.{nat_of}
@@ -228,12 +229,6 @@ map_same f back g h xs = ap (map back) (items_same (map f xs)) ∙ go xs
     go [] = refl
     go (x ∷ xs) = ap₂ ◌∷◌ (h x) (go xs)
 
-same_head : {A : Type 0} (x y : A) (xs ys : List A) → x ∷ xs ≡ y ∷ ys → x ≡ y
-same_head x y xs ys e = cc
-
-same_rest : {A : Type 0} (x y : A) (xs ys : List A) → x ∷ xs ≡ y ∷ ys → xs ≡ ys
-same_rest x y xs ys e = cc
-
 one_call : (n k : ℕ) (g h : Call) → CallInShape n k g → CallInShape n k h → listed g ≡ listed h → g ≡ h
 one_call n k g h p q e =
     let site = ap (λ (l : Listed). l.site) e in
@@ -246,7 +241,7 @@ one_list n k [] [] p q e = refl
 one_list n k [] (h ∷ hs) p q e = absurd cc
 one_list n k (g ∷ gs) [] p q e = absurd cc
 one_list n k (g ∷ gs) (h ∷ hs) p q e =
-    ap₂ ◌∷◌ (one_call n k g h p.0 q.0 (same_head (listed g) (listed h) _ _ e)) (one_list n k gs hs p.1 q.1 (same_rest (listed g) (listed h) _ _ e))
+    ap₂ ◌∷◌ (one_call n k g h p.0 q.0 (cons_head (listed g) (listed h) _ _ e)) (one_list n k gs hs p.1 q.1 (cons_tail (listed g) (listed h) _ _ e))
 
 pub one_certificate : (c d : Certificate) → InShape c → InShape d → certificate_data c ≡ certificate_data d → c ≡ d
 unfolding num_back

@@ -7,6 +7,7 @@ use Rattle.std.proofs.Common.{◌≡◌, ℕ, ◌==◌, ◌&&◌, Bool, true, fa
 use Rattle.std.proofs.lemmas.Bool.Decides.{nat_tests}
 use Rattle.std.specs.List.{flat_map}
 use mathlib.Core.Path.{fun_ext}
+use Rattle.homeo_lemmas.proofs.Lists.{not_nil}
 use Rattle.homeo_syntax.specs.declared.low.SplitName.TheVariants as split
 use Rattle.homeo_syntax.specs.Low.{Expr, Command, Commands, Skip, Assign, Write, Print, Seq, If, NoCommand, MoreCommand}
 use Rattle.homeo_meaning.specs.LowMeaning.{Location, TempAt, BaseAt, DeltaAt, State, Run, same_location, put, value, holds, exec, exec_all, location_of}
@@ -24,7 +25,7 @@ use Rattle.homeo_certificate.specs.Branches.{branches, all_branches}
 use Rattle.homeo_certificate.specs.declared.fault.Fault.TheVariants.{ForeignWrite}
 use Rattle.homeo_certificate.specs.Followed.{Rules, too_large, not_frozen, atom_faults, remote_deltas, foreign, forms_after, forms_after_all, written, all_written, faults, all_faults}
 use Rattle.homeo_certificate.proofs.Constants.{constant_is}
-use Rattle.homeo_certificate.proofs.FaultLists.{cons_is_some, none_of_both, all_frozen}
+use Rattle.homeo_certificate.proofs.FaultLists.{none_of_both, all_frozen}
 use Rattle.homeo_certificate.proofs.KeptTests.{Meets, cond_stays}
 
 -- ---- what the forms say of deltas 0 follows the run from there
@@ -64,7 +65,7 @@ own_site r x j e = go (j == r.site) e
   where
     go : (v : Bool) → cond v [] (ForeignWrite ∷ []) ≡ [] → v ≡ true
     go true e = refl
-    go false e = absurd (cons_is_some ForeignWrite [] e)
+    go false e = absurd (not_nil ForeignWrite [] e)
 
 module _
     (r : Rules) (s s' : State) (meets : Meets r s) (meets' : Meets r s')
@@ -128,8 +129,8 @@ module _
             own = w;
             kept = λ p k. kept_by_temp u (TempAt v) (value a u) p k (λ x j. refl) (λ x. refl);
           }
-      alike (Write (split.Whole x) a) f ds u u' e t w = absurd (cons_is_some ForeignWrite (too_large (met f a)) e)
-      alike (Write (split.Base x) a) f ds u u' e t w = absurd (cons_is_some ForeignWrite (too_large (met f a)) e)
+      alike (Write (split.Whole x) a) f ds u u' e t w = absurd (not_nil ForeignWrite (too_large (met f a)) e)
+      alike (Write (split.Base x) a) f ds u u' e t w = absurd (not_nil ForeignWrite (too_large (met f a)) e)
       alike (Write (split.Delta x j) a) f ds u u' e t w =
           let p = none_of_both (foreign r (split.Delta x j)) (too_large (met f a)) e in
           record {

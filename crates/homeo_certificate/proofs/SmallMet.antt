@@ -2,9 +2,10 @@
 use Rattle.homeo_meaning.specs.Key.{definitions as meaning_definitions}
 use Rattle.homeo_plan.specs.Key.{definitions as plan_definitions}
 use Rattle.homeo_certificate.specs.Key.{definitions}
-use Rattle.std.proofs.Common.{◌≡◌, Bool, true, false, cond, ◌&&◌, List, [], ◌∷◌, ◌++◌, map, ℤ, pos, int_lt, refl, ap, ap₂, le-leb}
+use Rattle.std.proofs.Common.{◌≡◌, Bool, true, false, cond, List, [], ◌∷◌, ◌++◌, map, ℤ, pos, int_lt, refl, ap, le-leb}
 use Rattle.std.specs.Int.RustNames.{unsigned_abs}
 use Rattle.std.specs.List.{list_all}
+use Rattle.std.proofs.lemmas.Bool.{and_parts, and_from}
 use Rattle.homeo_syntax.specs.declared.phrase.Compare.{Compare}
 use Rattle.homeo_syntax.specs.declared.phrase.Compare.TheVariants.{Less, LessEqual, Equal}
 use Rattle.homeo_syntax.specs.Low.{Expr, Exprs, Literal, OfTemp, Read, Sum, Product, Neg, NoExpr, MoreExpr, Test, Cond, True, Not, Comparison, NoTest, MoreTest}
@@ -15,6 +16,7 @@ use Rattle.homeo_plan.specs.Limit.{form_limit}
 use Rattle.homeo_plan.specs.declared.forms.Term.{Term}
 use Rattle.homeo_plan.specs.Linear.{Linear, constant_form, add_forms, multiply_forms, Forms, form}
 use Rattle.homeo_plan.specs.FormSizes.{Numbers, CanForm, CanSum, CanProduct, CanSubtract, CanTest, CanCond}
+use Rattle.homeo_plan.proofs.Atoms.{append_each}
 use Rattle.homeo_certificate.specs.Met.{numbers, at_zero, met, met_in_sum, met_in_product, met_in_test, met_in_cond}
 use Rattle.homeo_certificate.specs.Kept.{Atom, atom, gap, form_of, kept_true, kept_false, true_test, true_cond, false_test, false_cond}
 use Rattle.homeo_certificate.specs.declared.fault.Fault.TheVariants.{TooLarge}
@@ -30,26 +32,19 @@ small_is : (n : ℤ) → Small n → is_small form_limit n ≡ true
 unfolding meaning_definitions
 small_is n h = le-leb (unsigned_abs n) form_limit h
 
-pub and_both : (x y : Bool) → x ≡ true → y ≡ true → (x && y) ≡ true
-and_both x y p q = ap₂ ◌&&◌ p q
-
 all_both : (xs ys : List ℤ) → AllSmall xs → AllSmall ys → AllSmall (xs ++ ys)
 all_both [] ys h k = k
 all_both (x ∷ xs) ys h k =
-    let p = parts (is_small form_limit x) (list_all (is_small form_limit) xs) h in
-    and_both (is_small form_limit x) (list_all (is_small form_limit) (xs ++ ys)) p.0 (all_both xs ys p.1 k)
-  where
-    parts : (x y : Bool) → (x && y) ≡ true → (x ≡ true) × (y ≡ true)
-    parts true y e = (refl, e)
-    parts false y e = absurd cc
+    let p = and_parts (is_small form_limit x) (list_all (is_small form_limit) xs) h in
+    and_from (is_small form_limit x) (list_all (is_small form_limit) (xs ++ ys)) p.0 (all_both xs ys p.1 k)
 
 factors_small : (ts : List Term) → Each (λ t. Small t.factor) ts → AllSmall (map (λ t. t.factor) ts)
 unfolding plan_definitions
 factors_small [] h = refl
-factors_small (t ∷ ts) h = and_both _ _ (small_is t.factor h.0) (factors_small ts h.1)
+factors_small (t ∷ ts) h = and_from _ _ (small_is t.factor h.0) (factors_small ts h.1)
 
 pub numbers_small : (a : Linear) → Numbers Small a → AllSmall (numbers a)
-numbers_small a h = and_both _ _ (small_is a.constant h.constant) (factors_small a.terms h.factors)
+numbers_small a h = and_from _ _ (small_is a.constant h.constant) (factors_small a.terms h.factors)
 
 pub not_too_large : (ns : List ℤ) → AllSmall ns → too_large ns ≡ []
 unfolding definitions
@@ -57,7 +52,7 @@ not_too_large ns h = ap (λ v. cond v [] (TooLarge ∷ [])) h
 
 literal_small : (n : ℤ) → Numbers Small (constant_form n) → AllSmall (n ∷ [])
 unfolding plan_definitions
-literal_small n h = and_both _ _ (small_is n h.constant) refl
+literal_small n h = and_from _ _ (small_is n h.constant) refl
 
 mutual
   unfolding definitions plan_definitions
@@ -130,11 +125,6 @@ false_small Equal a b h k = go (int_lt a.constant b.constant)
     go true = (atom_small (atom a b (pos 1)) h.apart h.more, tt)
     go false = (atom_small (atom b a (pos 1)) k.apart k.more, tt)
 
-pub each_append : {X : Type 0} (P : X → Type 0) (xs ys : List X) → Each P xs → Each P ys → Each P (xs ++ ys)
-unfolding plan_definitions
-each_append P [] ys h k = k
-each_append P (x ∷ xs) ys h k = (h.0, each_append P xs ys h.1 k)
-
 module _ (f : Forms) where
   mutual
     unfolding definitions plan_definitions
@@ -152,7 +142,7 @@ module _ (f : Forms) where
     pub true_cond_small : (c : Cond) → CanCond Small f c → Each IsSmallAtom (true_cond f c)
     true_cond_small NoTest h = tt
     true_cond_small (MoreTest t c) h =
-        each_append IsSmallAtom (true_test f t) (true_cond f c) (true_test_small t h.0) (true_cond_small c h.1)
+        append_each IsSmallAtom (true_test f t) (true_cond f c) (true_test_small t h.0) (true_cond_small c h.1)
 
     pub false_cond_small : (c : Cond) → CanCond Small f c → Each IsSmallAtom (false_cond f c)
     false_cond_small NoTest h = tt

@@ -2,12 +2,15 @@
 use Rattle.homeo_meaning.specs.Key.{definitions as meaning_definitions}
 use Rattle.homeo_plan.specs.Key.{definitions as plan_definitions}
 use Rattle.homeo_certificate.specs.Key.{definitions}
-use Rattle.std.proofs.Common.{◌≡◌, ℕ, zero, suc, ◌==◌, ◌<◌, nat_lt, Bool, true, false, cond, List, [], ◌∷◌, ◌++◌, length, map, ℤ, pos, int_le, ◌+ℤ◌, ◌*ℤ◌, ◌≤ℤ◌, refl, sym, ap, ◌∙◌, subst, ⊎_elim, inl, arith}
+use Rattle.std.proofs.Common.{◌≡◌, ℕ, suc, ◌==◌, ◌<◌, nat_lt, Bool, true, false, cond, List, [], ◌∷◌, length, map, ℤ, pos, int_le, ◌≤ℤ◌, refl, sym, ap, ◌∙◌, subst, ⊎_elim, inl, arith}
 use Rattle.std.proofs.lemmas.Int.{ints}
 use Rattle.std.proofs.lemmas.Bool.Decides.{nat_tests}
 use Rattle.std.specs.List.{list_all, flat_map}
 use Rattle.std.specs.Ordering.{int_eq}
+use Rattle.std.proofs.lemmas.Bool.{and_parts}
 use mathlib.Core.Path.{fun_ext}
+use Rattle.homeo_lemmas.proofs.Integers.{int_is}
+use Rattle.homeo_lemmas.proofs.Lists.{not_nil}
 use Rattle.homeo_syntax.specs.declared.low.SplitName.TheVariants as split
 use Rattle.homeo_syntax.specs.Low.{Read}
 use Rattle.homeo_meaning.specs.LowMeaning.{Location, TempAt, BaseAt, DeltaAt, exec, whole}
@@ -15,17 +18,17 @@ use Rattle.homeo_plan.specs.Each.{Each}
 use Rattle.homeo_plan.specs.Holding.{IsOn}
 use Rattle.homeo_plan.specs.Config.{Config, total, FitsOne, Fits}
 use Rattle.homeo_plan.specs.declared.forms.Delta.{Delta}
-use Rattle.homeo_plan.specs.declared.forms.Term.{Term}
 use Rattle.homeo_plan.specs.Joined.{Deltas, join, alone, with_site}
 use Rattle.homeo_plan.specs.Local.{no_deltas}
 use Rattle.homeo_plan.specs.Linear.{base_forms, delta_of}
 use Rattle.homeo_plan.specs.Template.{Clause}
-use Rattle.homeo_plan.specs.Treaty.{site_sum, bound_at, KeepsClauses, KeepsFreezes, Treaty}
-use Rattle.homeo_plan.proofs.Atoms.{start_tracks, int_eq_is, both_parts}
+use Rattle.homeo_plan.specs.Treaty.{KeepsFreezes, Treaty}
+use Rattle.homeo_plan.proofs.Atoms.{start_tracks, append_each}
 use Rattle.homeo_plan.proofs.Covering.{each_member}
 use Rattle.homeo_plan.proofs.Local.{join_is_on}
 use Rattle.homeo_plan.proofs.SiteSums.{clauses_hold, freezes_hold}
 use Rattle.homeo_plan.proofs.Tracked.{tracks}
+use Rattle.homeo_plan.proofs.OwnWithin.{zero_keeps_clauses}
 use Rattle.homeo_certificate.specs.declared.verdict.Verdict.{Verdict}
 use Rattle.homeo_certificate.specs.declared.verdict.Verdict.TheVariants as verdict
 use Rattle.homeo_certificate.specs.Certificate.{Call, Certificate, template_of, base_of}
@@ -38,7 +41,7 @@ use Rattle.homeo_certificate.specs.Shape.{BoundsInShape, CallInShape, InShape}
 use Rattle.homeo_certificate.specs.Sound.{RunsAlone, IsSound}
 use Rattle.homeo_certificate.specs.Verdict.{fits_slack, misfits, at_call, faults_from, first_of_all, verdict_of, IsVerdictOn}
 use Rattle.homeo_certificate.specs.Laws.{IsSoundText}
-use Rattle.homeo_certificate.proofs.FaultLists.{cons_is_some, none_of_both, none_of_each}
+use Rattle.homeo_certificate.proofs.FaultLists.{none_of_both, none_of_each}
 use Rattle.homeo_certificate.proofs.KeptTests.{Meets}
 use Rattle.homeo_certificate.proofs.RunsAlike.{same_if_frozen, alike}
 
@@ -47,7 +50,7 @@ bounds_not_negative : (bounds : List ℤ) → list_all (int_le (pos 0)) bounds �
 unfolding plan_definitions
 bounds_not_negative [] e = tt
 bounds_not_negative (n ∷ ns) e =
-    let p = both_parts (int_le (pos 0) n) (list_all (int_le (pos 0)) ns) e in
+    let p = and_parts (int_le (pos 0) n) (list_all (int_le (pos 0)) ns) e in
     let h : pos 0 ≤ℤ n = grind (arith, ints, p.0) in
     (h, bounds_not_negative ns p.1)
 
@@ -64,11 +67,11 @@ fits_if k n (c ∷ cs) (b ∷ bs) l h e = go (fits_slack c b) refl e (λ q. fits
         (v : Bool) → fits_slack c b ≡ v → cond v (misfits (suc n) cs bs) (verdict.Bounds n ∷ []) ≡ [] →
         (misfits (suc n) cs bs ≡ [] → Fits k cs bs) → FitsOne k c b × Fits k cs bs
     go true q e more =
-        let p = both_parts (list_all (int_le (pos 0)) b) (int_eq (total b) c.slack) q in (
-          record { count = h.0.count; not_negative = bounds_not_negative b p.0; sums = int_eq_is (total b) c.slack p.1 },
+        let p = and_parts (list_all (int_le (pos 0)) b) (int_eq (total b) c.slack) q in (
+          record { count = h.0.count; not_negative = bounds_not_negative b p.0; sums = int_is (total b) c.slack p.1 },
           more e,
         )
-    go false q e more = absurd (cons_is_some (verdict.Bounds n) [] e)
+    go false q e more = absurd (not_nil (verdict.Bounds n) [] e)
 
 -- ---- a verdict of validity means that there is no fault
 abbrev IsFault : Verdict → Type 0
@@ -96,11 +99,6 @@ at_call_is_fault n (NotFrozen d) e = cc
 at_call_is_fault n NoClause e = cc
 at_call_is_fault n ForeignWrite e = cc
 
-both_each : {X : Type 0} (P : X → Type 0) (xs ys : List X) → Each P xs → Each P ys → Each P (xs ++ ys)
-unfolding plan_definitions
-both_each P [] ys h k = k
-both_each P (x ∷ xs) ys h k = (h.0, both_each P xs ys h.1 k)
-
 call_verdicts : (n : ℕ) (fs : List Fault) → Each IsFault (map (at_call n) fs)
 unfolding plan_definitions
 call_verdicts n [] = tt
@@ -110,12 +108,12 @@ calls_are_faults : (n : ℕ) (c : Certificate) (gs : List Call) → Each IsFault
 unfolding definitions plan_definitions
 calls_are_faults n c [] = tt
 calls_are_faults n c (g ∷ gs) =
-    both_each IsFault (map (at_call n) (call_faults c g)) (faults_from (suc n) c gs) (call_verdicts n (call_faults c g))
+    append_each IsFault (map (at_call n) (call_faults c g)) (faults_from (suc n) c gs) (call_verdicts n (call_faults c g))
     (calls_are_faults (suc n) c gs)
 
 none_of_map : {X Y : Type 0} (f : X → Y) (xs : List X) → map f xs ≡ [] → xs ≡ []
 none_of_map f [] e = refl
-none_of_map f (x ∷ xs) e = absurd (cons_is_some (f x) (map f xs) e)
+none_of_map f (x ∷ xs) e = absurd (not_nil (f x) (map f xs) e)
 
 no_call_faults : (n : ℕ) (c : Certificate) (gs : List Call) → faults_from n c gs ≡ [] → Each (λ g. call_faults c g ≡ []) gs
 unfolding definitions plan_definitions
@@ -132,34 +130,12 @@ pub valid_has_none : (c : Certificate) → verdict_of c ≡ verdict.Valid → Ha
 unfolding definitions plan_definitions
 valid_has_none c e =
     let all =
-    both_each IsFault (misfits 0 c.clauses c.bounds) (faults_from 0 c c.calls) (misfits_are_faults 0 c.clauses c.bounds)
+    append_each IsFault (misfits 0 c.clauses c.bounds) (faults_from 0 c c.calls) (misfits_are_faults 0 c.clauses c.bounds)
     (calls_are_faults 0 c c.calls) in
     let p = none_of_both (misfits 0 c.clauses c.bounds) (faults_from 0 c c.calls) (none_if_valid _ all e) in
     record { bounds = p.0; calls = no_call_faults 0 c c.calls p.1 }
 
 -- ---- a site's deltas alone
-sum_of_none : (i : ℕ) (ts : List Term) → site_sum i ts no_deltas ≡ pos 0
-unfolding plan_definitions
-sum_of_none i [] = refl
-sum_of_none i (t ∷ ts) = go (t.delta.site == i) (sum_of_none i ts)
-  where
-    go : (v : Bool) → site_sum i ts no_deltas ≡ pos 0 → cond v (t.factor *ℤ pos 0) (pos 0) +ℤ site_sum i ts no_deltas ≡ pos 0
-    go true h = omega (arith, ints, h)
-    go false h = omega (arith, ints, h)
-
-bound_not_negative : (bounds : List ℤ) (i : ℕ) → Each (λ n. pos 0 ≤ℤ n) bounds → pos 0 ≤ℤ bound_at bounds i
-unfolding plan_definitions
-bound_not_negative [] i h = omega (arith, ints)
-bound_not_negative (n ∷ ns) zero h = h.0
-bound_not_negative (n ∷ ns) (suc i) h = bound_not_negative ns i h.1
-
-none_keep : (k i : ℕ) (cs : List Clause) (bs : Config) → Fits k cs bs → KeepsClauses i no_deltas cs bs
-unfolding plan_definitions
-none_keep k i [] bs h = tt
-none_keep k i (c ∷ cs) [] h = absurd h
-none_keep k i (c ∷ cs) (b ∷ bs) h =
-    (subst (λ v. v ≤ℤ bound_at b i) (sym (sum_of_none i c.terms)) (bound_not_negative b i h.0.not_negative), none_keep k i cs bs h.1)
-
 none_freeze : (i : ℕ) (ds : List Delta) → KeepsFreezes i no_deltas ds
 unfolding plan_definitions
 none_freeze i [] = tt
@@ -205,7 +181,7 @@ module _ (c : Certificate) (fits : Fits c.sites c.clauses c.bounds) (d : ℕ →
       go true q =
           let e : g.site ≡ i = grind (arith, nat_tests) in
           subst (λ j. Treaty (template_of c) c.bounds i (d j)) (sym e) (keeps i l)
-      go false q = record { clauses = none_keep c.sites i c.clauses c.bounds fits; freezes = none_freeze i c.freezes }
+      go false q = record { clauses = zero_keeps_clauses c.sites i c.clauses c.bounds fits; freezes = none_freeze i c.freezes }
 
   meets_alone : Meets (rules_of c g) (alone (base_of c) g.site (d g.site))
   unfolding definitions plan_definitions

@@ -1,7 +1,7 @@
 -- The text of a certificate in shape reads back as its JSON value.
 use Rattle.homeo_plan.specs.Key.{definitions as plan_definitions}
 use Rattle.homeo_certificate.specs.Key.{definitions}
-use Rattle.std.proofs.Common.{◌≡◌, ℕ, suc, ◌<◌, ◌≤◌, ◌^◌, Bool, true, false, List, [], ◌∷◌, ◌++◌, map, length, ℤ, pos, negsuc, neg_ℤ, Some, option_and_then, option_map, IsUtf8, refl, sym, ap, ◌∙◌, subst, arith, append-nil, ◌⊎◌, inl, inr}
+use Rattle.std.proofs.Common.{◌≡◌, ℕ, suc, ◌<◌, ◌≤◌, ◌^◌, Bool, true, false, List, [], ◌∷◌, map, length, ℤ, pos, negsuc, neg_ℤ, Some, option_and_then, option_map, IsUtf8, refl, sym, ap, ◌∙◌, subst, arith, append-nil, ◌⊎◌, inl, inr}
 use Rattle.std.specs.Prelude.{codes}
 use Rattle.std.proofs.lemmas.Int.{ints}
 use Rattle.std.proofs.lemmas.Bool.{cases_lt}
@@ -200,11 +200,6 @@ plain_clause n k l m c h =
     (plain_list 1 (map term_data c.terms) (each_of_map _ (Plain 1) term_data (plain_term n k l m) c.terms h.terms)) (no_more 2)))
 
 -- ---- commands
-each_both : {X : Type 0} (P : X → Type 0) (xs ys : List X) → Each P xs → Each P ys → Each P (xs ++ ys)
-unfolding plan_definitions
-each_both P [] ys h k = k
-each_both P (x ∷ xs) ys h k = (h.0, each_both P xs ys h.1 k)
-
 plain_named : (name : List ℕ) (ns : List ℤ) → are_ascii name ≡ true → Each IsWord ns → Plain 1 (named name ns)
 unfolding plan_definitions
 plain_named name ns e h =
