@@ -2,25 +2,25 @@
 use Rattle.homeo_meaning.specs.Key.{definitions as meaning_definitions}
 use Rattle.homeo_plan.specs.Key.{definitions as plan_definitions}
 use Rattle.homeo_certificate.specs.Key.{definitions}
-use Rattle.std.proofs.Common.{◌≡◌, ℕ, zero, suc, ◌+◌, ◌*◌, ◌≤◌, Bool, true, false, ◌||◌, List, [], ◌∷◌, map, length, ℤ, pos, negsuc, int_lt, ◌≤ℤ◌, get_or, refl, sym, arith, length-append}
+use Rattle.std.proofs.Common.{◌≡◌, ℕ, suc, ◌≤◌, Bool, true, false, ◌||◌, List, [], ◌∷◌, map, length, ℤ, pos, negsuc, int_lt, ◌≤ℤ◌, get_or, refl, sym, arith}
 use Rattle.std.proofs.lemmas.Int.{ints}
-use Rattle.std.proofs.lemmas.List.{length-map}
 use Rattle.std.specs.Int.RustNames.{unsigned_abs}
+use Rattle.homeo_lemmas.proofs.Lists.{length_map}
 use Rattle.homeo_syntax.specs.Source as s
 use Rattle.homeo_syntax.specs.declared.phrase.Number.{Number}
 use Rattle.homeo_meaning.specs.Acceptance.{IsAccepted}
-use Rattle.homeo_meaning.specs.Bounds.{bounds_of, slot_bounds, relation_bounds, all_bounds, IsWithin}
-use Rattle.homeo_meaning.specs.Context.{object_count}
+use Rattle.homeo_meaning.specs.Bounds.{all_bounds, IsWithin}
 use Rattle.homeo_meaning.specs.ListRules.{when, number_fault}
 use Rattle.homeo_meaning.specs.NumberRules.{site_count_faults, ground_calls}
 use Rattle.homeo_meaning.specs.Ground.{grounds, ground_of_sited}
-use Rattle.homeo_meaning.specs.Schema.{Declared, Relation, Schema, schema_of, nat_of}
+use Rattle.homeo_meaning.specs.Schema.{schema_of, nat_of}
 use Rattle.homeo_meaning.specs.Serial.{values_of}
 use Rattle.homeo_meaning.specs.declared.call.Purpose.TheVariants.{Run}
 use Rattle.homeo_meaning.specs.declared.rules.Phase.TheVariants.{Limits}
 use Rattle.homeo_meaning.proofs.FaultParts.{NoFault, parts, limit_parts}
 use Rattle.homeo_meaning.proofs.Sound.{sound}
 use Rattle.homeo_meaning.proofs.Within.{length_in, all_within}
+use Rattle.homeo_lform.proofs.ObjectBounds.{bounds_count as objects_count}
 use Rattle.homeo_ground.proofs.Limits.{limited}
 use Rattle.homeo_plan.specs.Config.{Config, Fits}
 use Rattle.homeo_plan.specs.Each.{Each}
@@ -63,32 +63,6 @@ unfolding meaning_definitions
 count_few (pos n) h = record { some = omega (arith, ints, h.some); few = omega (arith, ints, h.few) }
 count_few (negsuc n) h = absurd (omega (arith, ints, h.some))
 
-slots_count : (n : ℕ) (fs : List Declared) → length (slot_bounds n fs) ≡ n * (1 + length fs)
-unfolding meaning_definitions
-slots_count zero fs = omega arith
-slots_count (suc n) fs =
-    let a = length-append (map bounds_of fs) (slot_bounds n fs) in
-    let b = length-map fs bounds_of in
-    let c = slots_count n fs in
-    omega (arith, a, b, c)
-
-relations_count : (k : ℕ) (rs : List Relation) → object_count k rs ≡ k + length (relation_bounds rs)
-unfolding meaning_definitions
-relations_count k [] = omega arith
-relations_count k (r ∷ rs) =
-    let a = relations_count (k + r.slots * (1 + length r.fields)) rs in
-    let b = length-append (slot_bounds r.slots r.fields) (relation_bounds rs) in
-    let c = slots_count r.slots r.fields in
-    omega (arith, a, b, c)
-
-objects_count : (x : Schema) → length (all_bounds x) ≡ object_count (length x.objects) x.relations
-unfolding meaning_definitions
-objects_count x =
-    let a = length-append (map bounds_of x.objects) (relation_bounds x.relations) in
-    let b = length-map x.objects bounds_of in
-    let c = relations_count (length x.objects) x.relations in
-    omega (arith, a, b, c)
-
 -- ---- numbers of the base
 pub word_if : (v : ℤ) → unsigned_abs v ≤ 1000000000000000000 → IsWord v
 word_if v h = record { low = grind (arith, ints, h); high = grind (arith, ints, h) }
@@ -99,9 +73,6 @@ words_of [] h = tt
 words_of (v ∷ vs) h = (word_if v (h 0), words_of vs (λ n. h (suc n)))
 
 -- ---- the certificate
-each_length : {X Y : Type 0} (f : X → Y) (xs : List X) → length (map f xs) ≡ length xs
-each_length f xs = length-map xs f
-
 module _
     (w : s.Workload) (base : List ℤ) (config : Config) (accepted : IsAccepted w) (within : IsWithin (schema_of w) base)
     (fits : Fits (sites_of w) (template_at w base).clauses config)
@@ -132,9 +103,9 @@ module _
         let few = (sound w accepted).few in
         let clauses = clauses_in_shape (length base) (sites_of w) (values_of base) (planned w) ready in
         let bounds = bounds_in_shape (length base) (sites_of w) (template_at w base).clauses config fits clauses in
-        let count = each_length (certified_call (sites_of w)) (planned w) in
-        let count2 = each_length (planned_call w) (grounds w) in
-        let count3 = each_length (ground_of_sited w) (ground_calls w) in
+        let count = length_map (certified_call (sites_of w)) (planned w) in
+        let count2 = length_map (planned_call w) (grounds w) in
+        let count3 = length_map (ground_of_sited w) (ground_calls w) in
         let most_calls = (limited w accepted).grounds in
         record {
           one_site = sites.some;

@@ -5,6 +5,8 @@ use Rattle.std.proofs.Common.{◌≡◌, ℕ, suc, ◌+◌, ◌*◌, ◌<◌, tr
 use Rattle.std.proofs.lemmas.Int.{ints}
 use Rattle.std.specs.List.{list_all}
 use Rattle.std.specs.Ordering.{int_eq}
+use Rattle.std.proofs.lemmas.Bool.{and_from}
+use Rattle.homeo_lemmas.proofs.Integers.{int_same}
 use Rattle.homeo_syntax.specs.Source as s
 use Rattle.homeo_meaning.specs.Acceptance.{weight_limit, IsAccepted}
 use Rattle.homeo_meaning.specs.Bounds.{IsWithin}
@@ -33,7 +35,6 @@ use Rattle.homeo_certificate.specs.Certified.{certified_call, certificate_of}
 use Rattle.homeo_certificate.specs.Followed.{call_faults}
 use Rattle.homeo_certificate.specs.Verdict.{fits_slack, misfits, at_call, faults_from, first_of_all, verdict_of}
 use Rattle.homeo_certified.proofs.NoFaults.{none_and, no_faults}
-use Rattle.homeo_certificate.proofs.SmallMet.{and_both}
 
 -- ---- bounds that fit
 bounds_hold : (bounds : List ℤ) → Each (λ n. pos 0 ≤ℤ n) bounds → list_all (int_le (pos 0)) bounds ≡ true
@@ -41,14 +42,11 @@ unfolding plan_definitions
 bounds_hold [] h = refl
 bounds_hold (n ∷ ns) h =
     let p : int_le (pos 0) n ≡ true = grind (arith, ints, h.0) in
-    and_both (int_le (pos 0) n) (list_all (int_le (pos 0)) ns) p (bounds_hold ns h.1)
-
-int_same : (m n : ℤ) → m ≡ n → int_eq m n ≡ true
-int_same m n e = grind (arith, ints)
+    and_from (int_le (pos 0) n) (list_all (int_le (pos 0)) ns) p (bounds_hold ns h.1)
 
 fits_here : (k : ℕ) (c : Clause) (b : List ℤ) → FitsOne k c b → fits_slack c b ≡ true
 unfolding definitions
-fits_here k c b h = and_both (list_all (int_le (pos 0)) b) (int_eq (total b) c.slack) (bounds_hold b h.not_negative) (int_same (total b) c.slack h.sums)
+fits_here k c b h = and_from (list_all (int_le (pos 0)) b) (int_eq (total b) c.slack) (bounds_hold b h.not_negative) (int_same (total b) c.slack h.sums)
 
 no_misfits : (k n : ℕ) (cs : List Clause) (bs : Config) → Fits k cs bs → misfits n cs bs ≡ []
 unfolding definitions plan_definitions

@@ -7,6 +7,9 @@ use Rattle.std.proofs.lemmas.Int.{ints}
 use Rattle.std.proofs.lemmas.Bool.Decides.{nat_tests}
 use Rattle.std.specs.List.{list_any, flat_map}
 use Rattle.std.specs.Ordering.{int_eq}
+use Rattle.std.proofs.lemmas.Bool.{and_from}
+use Rattle.homeo_lemmas.proofs.Bools.{or_true}
+use Rattle.homeo_lemmas.proofs.Integers.{int_itself}
 use Rattle.homeo_syntax.specs.declared.low.SplitName.TheVariants as split
 use Rattle.homeo_syntax.specs.Low.{Expr, Cond, NoTest, MoreTest, Command, Commands, Skip, Assign, Write, Print, Seq, If, NoCommand, MoreCommand}
 use Rattle.homeo_meaning.specs.LowMeaning.{TempAt, DeltaAt, put, holds, exec, whole}
@@ -28,6 +31,7 @@ use Rattle.homeo_plan.proofs.Atoms.{each_append}
 use Rattle.homeo_plan.proofs.Covering.{each_map}
 use Rattle.homeo_plan.proofs.Tables.{row_at_walk}
 use Rattle.homeo_plan.proofs.Tracked.{each_add_deltas}
+use Rattle.homeo_plan.proofs.Factors.{same_delta_refl}
 use Rattle.homeo_certificate.specs.Met.{at_zero, met, met_in_cond, numbers}
 use Rattle.homeo_certificate.specs.Kept.{Atom, gap, form_of, true_test, true_cond, false_cond}
 use Rattle.homeo_certificate.specs.declared.fault.Fault.{Fault}
@@ -35,7 +39,7 @@ use Rattle.homeo_certificate.specs.declared.fault.Fault.TheVariants.{NotFrozen, 
 use Rattle.homeo_certificate.specs.Followed.{Rules, too_large, not_frozen, keeps, no_clause, atom_faults, remote_deltas, foreign, forms_after, forms_after_all, written, all_written, faults, all_faults}
 use Rattle.homeo_certified.proofs.RowsBack.{zero_at_base, back_cond, uncleared_cond, true_cond_put, true_cond_clear, true_cond_is}
 use Rattle.homeo_certificate.proofs.RunsAlike.{zero_after}
-use Rattle.homeo_certificate.proofs.SmallMet.{IsSmallAtom, and_both, expr_not_large, cond_not_large, true_cond_small, false_cond_small}
+use Rattle.homeo_certificate.proofs.SmallMet.{IsSmallAtom, expr_not_large, cond_not_large, true_cond_small, false_cond_small}
 
 abbrev Small : ℤ → Type 0
 Small = IsSmall form_limit
@@ -258,33 +262,22 @@ module _ (r : Rules) where
         record { none = none_and (faults r c f) (all_faults r cs (forms_after c f)) h.none g.none; after = g.after }
 
 -- ---- what is among the freezes and clauses is found there
-same_delta_itself : (d : Delta) → same_delta d d ≡ true
-unfolding plan_definitions
-same_delta_itself d = and_both (d.object == d.object) (d.site == d.site) (grind (arith, nat_tests)) (grind (arith, nat_tests))
-
-int_itself : (n : ℤ) → int_eq n n ≡ true
-int_itself n = grind (arith, ints)
-
 same_terms_itself : (ts : List Term) → same_terms ts ts ≡ true
 unfolding plan_definitions
 same_terms_itself [] = refl
 same_terms_itself (t ∷ ts) =
-    and_both (same_term t t) (same_terms ts ts)
-    (and_both (same_delta t.delta t.delta) (int_eq t.factor t.factor) (same_delta_itself t.delta) (int_itself t.factor)) (same_terms_itself ts)
+    and_from (same_term t t) (same_terms ts ts)
+    (and_from (same_delta t.delta t.delta) (int_eq t.factor t.factor) (same_delta_refl t.delta) (int_itself t.factor)) (same_terms_itself ts)
 
 keeps_own : (a : Linear) → keeps a (clause_of a) ≡ true
 unfolding definitions plan_definitions
 keeps_own a =
-    and_both (same_terms a.terms a.terms) (int_le (neg_ℤ a.constant) (neg_ℤ a.constant)) (same_terms_itself a.terms) (grind (arith, ints))
+    and_from (same_terms a.terms a.terms) (int_le (neg_ℤ a.constant) (neg_ℤ a.constant)) (same_terms_itself a.terms) (grind (arith, ints))
 
 any_if : {X : Type 0} (p : X → Bool) (x : X) (xs : List X) → p x ≡ true → Member x xs → list_any p xs ≡ true
 unfolding plan_definitions
 any_if p x [] e m = absurd m
 any_if p x (y ∷ ys) e m = ⊎_elim (λ q. ap (λ v. v || list_any p ys) (ap p q ∙ e)) (λ n. ap (λ v. p y || v) (any_if p x ys e n) ∙ or_true (p y)) m
-  where
-    or_true : (v : Bool) → (v || true) ≡ true
-    or_true true = refl
-    or_true false = refl
 
 each_of_map : {X Y : Type 0} (P : Y → Type 0) (f : X → Y) (xs : List X) → Each P (map f xs) → Each (λ x. P (f x)) xs
 unfolding plan_definitions
@@ -305,7 +298,7 @@ module _
     r = record { site = g.site; clauses = t.clauses; freezes = t.freezes }
 
     frozen : (ds : List Delta) → Each (λ d. Member d t.freezes) ds → Each (IsFrozen r) ds
-    frozen ds h = each_map (λ d. Member d t.freezes) (IsFrozen r) (λ d m. any_if (same_delta d) d t.freezes (same_delta_itself d) m) ds h
+    frozen ds h = each_map (λ d. Member d t.freezes) (IsFrozen r) (λ d m. any_if (same_delta d) d t.freezes (same_delta_refl d) m) ds h
 
     before : Row
     before = walk_before (shifted k g) (whole b) last_row

@@ -3,6 +3,7 @@ use Rattle.std.proofs.Common.{◌≡◌, ℕ, zero, suc, ◌<◌, ◌≤◌, ◌
 use Rattle.std.proofs.lemmas.Nat.{mul-le}
 use Rattle.std.proofs.lemmas.Bool.{and_parts}
 use Rattle.std.proofs.lemmas.Bool.Decides.{nat_tests}
+use Rattle.homeo_lemmas.proofs.Naturals.{product_positive, factor_le}
 use Rattle.homeo_syntax.specs.declared.low.Temp.TheVariants as temp
 use Rattle.homeo_syntax.specs.declared.low.SplitName.TheVariants as split
 use Rattle.homeo_syntax.specs.Low.{Expr, Exprs, Literal, OfTemp, Read, Sum, Product, Neg, NoExpr, MoreExpr, Test, Cond, True, Not, Comparison, NoTest, MoreTest, Command, Commands, Skip, Assign, Write, Print, Seq, If, NoCommand, MoreCommand}
@@ -16,6 +17,7 @@ use Rattle.homeo_meaning.specs.NamesWithin.{ExprWithin, ExprsWithin, TestWithin,
 use Rattle.homeo_meaning.specs.Whole.{IsWholeExpr, AreWholeExprs, IsWholeTest, IsWholeCond, IsWhole, AreWhole}
 use Rattle.homeo_plan.specs.Key.{definitions as plan_definitions}
 use Rattle.homeo_plan.specs.Split.{delta_reads, other_deltas, shift_expr, shift_exprs, shift_test, shift_cond, shift, shift_all}
+use Rattle.homeo_plan.proofs.Followed.{put_ones}
 use Rattle.homeo_certificate.specs.Key.{definitions}
 use Rattle.homeo_certificate.specs.Nodes.{expr_count, test_count, command_count}
 use Rattle.homeo_certificate.specs.Shape.{IsCount, ExprInShape, ExprsInShape, TestInShape, CondInShape, CommandInShape, CommandsInShape}
@@ -24,12 +26,6 @@ use Rattle.homeo_certified.proofs.FreshBelow.{ExprBelow, ExprsBelow, TestBelow, 
 
 abbrev most : ℕ
 most = 1000000000000000000
-
-one_mul : (m n : ℕ) → 1 ≤ m → 1 ≤ n → 1 ≤ m * n
-one_mul m n p q = omega (arith, mul-le 1 1 m n p q)
-
-factor_le : (a k : ℕ) → 1 ≤ k → a ≤ a * k
-factor_le a k p = omega (arith, mul-le a 1 a k (omega arith) p)
 
 other_le : (a k : ℕ) → 1 ≤ k → a ≤ k * a
 other_le a k p = omega (arith, mul-le 1 a k a p (omega arith))
@@ -49,7 +45,7 @@ module _ (w : Location → ℕ) (ones : (p : Location) → 1 ≤ w p) where
 
     one_product : (es : Exprs) → 1 ≤ product_weight es w
     one_product NoExpr = omega arith
-    one_product (MoreExpr e es) = one_mul (weight e w) (product_weight es w) (one_weight e) (one_product es)
+    one_product (MoreExpr e es) = product_positive (weight e w) (product_weight es w) (one_weight e) (one_product es)
 
   -- each of them is light
   abbrev EachLight : Exprs → Type 0
@@ -70,21 +66,13 @@ module _ (w : Location → ℕ) (ones : (p : Location) → 1 ≤ w p) where
       let rest = other_le (product_weight es w) (weight e w) (one_weight e) in
       (omega (arith, h, first), product_each es (omega (arith, h, rest)))
 
-ones_put : (w : Location → ℕ) (p : Location) (n : ℕ) → ((q : Location) → 1 ≤ w q) → 1 ≤ n → (q : Location) → 1 ≤ put w p n q
-unfolding meaning_definitions
-ones_put w p n h k q = go (same_location p q)
-  where
-    go : (v : Bool) → 1 ≤ cond v n (w q)
-    go true = k
-    go false = h q
-
 mutual
   unfolding meaning_definitions
 
   ones_after : (c : Command) (w : Location → ℕ) → ((p : Location) → 1 ≤ w p) → (p : Location) → 1 ≤ weigh.after c w p
   ones_after Skip w h = h
-  ones_after (Assign t e) w h = ones_put w (TempAt t) (weight e w) h (one_weight w h e)
-  ones_after (Write x e) w h = ones_put w (location_of x) (weight e w) h (one_weight w h e)
+  ones_after (Assign t e) w h = put_ones w (TempAt t) (weight e w) h (one_weight w h e)
+  ones_after (Write x e) w h = put_ones w (location_of x) (weight e w) h (one_weight w h e)
   ones_after (Print e) w h = h
   ones_after (Seq cs) w h = ones_after_all cs w h
   ones_after (If b c d) w h = λ p. let l = ones_after c w h p in omega (arith, l)

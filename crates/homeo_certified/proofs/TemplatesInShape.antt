@@ -21,6 +21,9 @@ use Rattle.homeo_plan.specs.Table.{Row, walk}
 use Rattle.homeo_plan.specs.Template.{PlannedCall, shifted, base_row, atoms_of, needs_of, Clause, clause_of, same_clause, with_clause, clauses_from, atoms_of_sets, put_all, template}
 use Rattle.homeo_plan.proofs.DeltaLists.{in_order_puts, each_put_all, terms_in_order}
 use Rattle.homeo_plan.proofs.Tables.{row_at_walk}
+use Rattle.homeo_plan.proofs.Atoms.{append_each}
+use Rattle.homeo_plan.proofs.AtomClauses.{each_of_sets}
+use Rattle.homeo_plan.proofs.Covering.{each_map}
 use Rattle.homeo_certificate.specs.Shape.{IsWord, DeltaInShape, TermInShape, ClauseInShape, BoundsInShape, CommandInShape}
 use Rattle.homeo_certified.proofs.FormedForms.{TermCounts, base_formed}
 use Rattle.homeo_certified.proofs.RowsInShape.{IsFormed, walk_in_shape, true_cond_formed, needs_in}
@@ -35,20 +38,10 @@ unfolding meaning_definitions
 negated_is_word n h = let q : unsigned_abs n ≤ 4000000000000000000 = h in record { low = grind (arith, ints, q); high = grind (arith, ints, q) }
 
 -- ---- lists of lists
-each_both : {X : Type 0} (Q : X → Type 0) (xs ys : List X) → Each Q xs → Each Q ys → Each Q (xs ++ ys)
-unfolding plan_definitions
-each_both Q [] ys h k = k
-each_both Q (x ∷ xs) ys h k = (h.0, each_both Q xs ys h.1 k)
-
 each_to : {X Y : Type 0} (P : X → Type 0) (Q : Y → Type 0) (f : X → Y) → ((x : X) → P x → Q (f x)) → (xs : List X) → Each P xs → Each Q (map f xs)
 unfolding plan_definitions
 each_to P Q f g [] h = tt
 each_to P Q f g (x ∷ xs) h = (g x h.0, each_to P Q f g xs h.1)
-
-in_sets : (Q : Linear → Type 0) (sets : List (List Linear)) → Each (Each Q) sets → Each Q (atoms_of_sets sets)
-unfolding plan_definitions
-in_sets Q [] h = tt
-in_sets Q (s ∷ sets) h = each_both Q s (atoms_of_sets sets) h.0 (in_sets Q sets h.1)
 
 in_clauses : (Q : Clause → Type 0) (cs : List Clause) (atoms : List Linear) → Each Q cs → Each (λ a. Q (clause_of a)) atoms → Each Q (clauses_from cs atoms)
 unfolding plan_definitions
@@ -58,12 +51,7 @@ in_clauses Q cs (a ∷ more) h k = in_clauses Q (with_clause cs a) more (go (is_
     go : (v w : Bool) → Each Q (cond v cs (cond w cs (cs ++ clause_of a ∷ [])))
     go true w = h
     go false true = h
-    go false false = each_both Q cs (clause_of a ∷ []) h (k.0, tt)
-
-each_self : {X : Type 0} (P Q : X → Type 0) → ((x : X) → P x → Q x) → (xs : List X) → Each P xs → Each Q xs
-unfolding plan_definitions
-each_self P Q f [] h = tt
-each_self P Q f (x ∷ xs) h = (f x h.0, each_self P Q f xs h.1)
+    go false false = append_each Q cs (clause_of a ∷ []) h (k.0, tt)
 
 each_pair : {X : Type 0} (P Q : X → Type 0) (xs : List X) → Each P xs → Each Q xs → Each (λ x. P x × Q x) xs
 unfolding plan_definitions
@@ -121,13 +109,13 @@ module _ (n k : ℕ) (b : ℕ → ℤ) where
 
   module _ (gs : List PlannedCall) (ready : Each IsReady gs) where
     all_good : Each GoodAtom (atoms_of_sets (map (atoms_of k b) gs))
-    all_good = in_sets GoodAtom (map (atoms_of k b) gs) (each_to IsReady (Each GoodAtom) (atoms_of k b) good_atoms gs ready)
+    all_good = each_of_sets GoodAtom (map (atoms_of k b) gs) (each_to IsReady (Each GoodAtom) (atoms_of k b) good_atoms gs ready)
 
     pub clauses_in_shape : Each (ClauseInShape n k) (template k b gs).clauses
     unfolding plan_definitions
     clauses_in_shape =
         in_clauses (ClauseInShape n k) [] (atoms_of_sets (map (atoms_of k b) gs)) tt
-        (each_self GoodAtom (λ a. ClauseInShape n k (clause_of a)) good_clause (atoms_of_sets (map (atoms_of k b) gs)) all_good)
+        (each_map GoodAtom (λ a. ClauseInShape n k (clause_of a)) good_clause (atoms_of_sets (map (atoms_of k b) gs)) all_good)
 
     pub freezes_in_shape : Each (DeltaInShape n k) (template k b gs).freezes
     unfolding plan_definitions
@@ -147,7 +135,7 @@ unfolding plan_definitions
 at_most_total [] h = (tt, omega (arith, ints))
 at_most_total (n ∷ ns) h =
     let r = at_most_total ns h.1 in
-    ((omega (arith, ints, r.1), each_self _ (λ m. m ≤ℤ (n +ℤ total ns)) (λ m q. omega (arith, ints, h.0)) ns r.0), omega (arith, ints, h.0, r.1))
+    ((omega (arith, ints, r.1), each_map _ (λ m. m ≤ℤ (n +ℤ total ns)) (λ m q. omega (arith, ints, h.0)) ns r.0), omega (arith, ints, h.0, r.1))
 
 between : (n m : ℤ) → pos 0 ≤ℤ n → n ≤ℤ m → IsWord m → IsWord n
 between n m h l w = record { low = grind (arith, ints, h); high = grind (arith, ints, l, w.high) }
