@@ -1,6 +1,7 @@
 -- The nodes of each kind of phrase and command, as they are listed.
 use Rattle.std.proofs.Common.{◌≡◌, ℕ, suc, ◌+◌, ◌<◌, ◌≤◌, ℤ, Box, Global, List, [], ◌∷◌, ◌++◌, map, drop, get_or, length, refl, sym, ap, ◌∙◌, append_assoc}
-use Rattle.std.proofs.lemmas.List.{length-map}
+use Rattle.std.proofs.lemmas.List.{length-map, append-nil}
+use Rattle.homeo_lemmas.proofs.Lists.{map_drop_past}
 use Rattle.homeo_syntax.specs.Key.{definitions as syntax_definitions}
 use Rattle.homeo_syntax.specs.Listed.{Listed}
 use Rattle.homeo_syntax.specs.Low as l
@@ -13,7 +14,7 @@ use Rattle.homeo_syntax.specs.declared.low.LCond.{LCond, out-LCond}
 use Rattle.homeo_syntax.specs.declared.low.LCommand.{LCommand, Skip, Assign, Write, Print, Seq, If}
 use Rattle.homeo_syntax.specs.LowView.{low_exprs, low_tests, low_commands, plain_lexpr, plain_ltest, plain_lcond, plain_lcommand}
 use Rattle.homeo_syntax.proofs.LowViews.{low_Literal, low_Temp, low_Read, low_Sum, low_Product, low_Neg, low_True, low_Not, low_Compare, low_conjunction, low_Skip, low_Assign, low_Write, low_Print, low_Seq, low_If}
-use Rattle.homeo_meaning.proofs.Steps.{drop_next, drop_none}
+use Rattle.homeo_meaning.proofs.Steps.{drop_next}
 use Rattle.homeo_certificate.specs.Key.{definitions}
 use Rattle.homeo_certificate.specs.declared.nodes.Node.TheVariants as node
 use Rattle.homeo_certificate.specs.Nodes.{name_node, write_node, expr_count, test_count, command_count, expr_nodes, exprs_nodes, test_nodes, cond_nodes, command_nodes, commands_nodes}
@@ -126,7 +127,7 @@ exprs_next es i e h p = ap (λ l. exprs_nodes (low_exprs l)) (drop_next plain_le
 
 pub exprs_none : (es : List LExpr) (i : ℕ) → length es ≤ i → exprs_nodes (low_exprs (map plain_lexpr (drop i es))) ≡ []
 unfolding definitions syntax_definitions
-exprs_none es i h = ap (λ l. exprs_nodes (low_exprs l)) (drop_none plain_lexpr es i h)
+exprs_none es i h = ap (λ l. exprs_nodes (low_exprs l)) (map_drop_past plain_lexpr es i h)
 
 pub tests_next : (ts : List LTest) (i : ℕ) (t : LTest) → i < length ts → t ≡ get_or ts i t →
     cond_nodes (low_tests (map plain_ltest (drop i ts))) ≡ test_nodes (plain_ltest t) ++ cond_nodes (low_tests (map plain_ltest (drop (i + 1) ts)))
@@ -135,7 +136,7 @@ tests_next ts i t h p = ap (λ l. cond_nodes (low_tests l)) (drop_next plain_lte
 
 pub tests_none : (ts : List LTest) (i : ℕ) → length ts ≤ i → cond_nodes (low_tests (map plain_ltest (drop i ts))) ≡ []
 unfolding definitions syntax_definitions
-tests_none ts i h = ap (λ l. cond_nodes (low_tests l)) (drop_none plain_ltest ts i h)
+tests_none ts i h = ap (λ l. cond_nodes (low_tests l)) (map_drop_past plain_ltest ts i h)
 
 pub commands_next : (cs : List LCommand) (i : ℕ) (c : LCommand) → i < length cs → c ≡ get_or cs i c →
     commands_nodes (low_commands (map plain_lcommand (drop i cs))) ≡ command_nodes (plain_lcommand c) ++ commands_nodes (low_commands (map plain_lcommand (drop (i + 1) cs)))
@@ -144,17 +145,11 @@ commands_next cs i c h p = ap (λ l. commands_nodes (low_commands l)) (drop_next
 
 pub commands_none : (cs : List LCommand) (i : ℕ) → length cs ≤ i → commands_nodes (low_commands (map plain_lcommand (drop i cs))) ≡ []
 unfolding definitions syntax_definitions
-commands_none cs i h = ap (λ l. commands_nodes (low_commands l)) (drop_none plain_lcommand cs i h)
+commands_none cs i h = ap (λ l. commands_nodes (low_commands l)) (map_drop_past plain_lcommand cs i h)
 
 -- what was listed after some nodes, with the first of what is left put behind it
 pub one_more : {A : Type 0} (before all now new x left rest : List A) → new ≡ now ++ x → left ≡ x ++ rest → now ++ left ≡ before ++ all → new ++ rest ≡ before ++ all
 one_more before all now new x left rest e p so = ap (λ l. l ++ rest) e ∙ append_assoc now x rest ∙ ap (λ l. now ++ l) (sym p) ∙ so
 
 pub none_left : {A : Type 0} (before all now left : List A) → left ≡ [] → now ++ left ≡ before ++ all → now ≡ before ++ all
-none_left before all now left p so = sym (append_nil now) ∙ ap (λ l. now ++ l) (sym p) ∙ so
-  where
-    append_nil : {A : Type 0} (xs : List A) → xs ++ [] ≡ xs
-    append_nil [] = refl
-    append_nil (x ∷ xs) = ap (λ l. x ∷ l) (append_nil xs)
-
--- ---- the first node, and what stands behind it
+none_left before all now left p so = sym (append-nil now) ∙ ap (λ l. now ++ l) (sym p) ∙ so

@@ -5,7 +5,8 @@ use Rattle.serde.specs.Event.{Log, Logs, seq_begins, seq_ends}
 use Rattle.serde_json.specs.Data.{Data}
 use Rattle.serde_json.specs.Events.{items_len, SendsValue, SendsItems}
 use Rattle.serde_json.specs.View.{items_of}
-use Rattle.homeo_meaning.proofs.Steps.{drop_next, drop_none}
+use Rattle.homeo_lemmas.proofs.Lists.{map_drop_past}
+use Rattle.homeo_meaning.proofs.Steps.{drop_next}
 use Rattle.homeo_certificate.specs.Json.{list_data}
 
 -- of all, those before the rest are sent: whatever ends the list well from here ends it well from the start
@@ -30,5 +31,5 @@ list_sent f xs n i old first last new count past begun so_far ended =
     let counted : n ≡ items_len (items_of (map f xs)) = count ∙ sym (items_counted (map f xs) ∙ length-map xs f) in (
       first,
       subst (λ m. Logs old first (seq_begins (Some m))) counted begun,
-      so_far new (subst (λ ds. SendsItems (items_of ds) last new) (sym (drop_none f xs i past)) ended),
+      so_far new (subst (λ ds. SendsItems (items_of ds) last new) (sym (map_drop_past f xs i past)) ended),
     )
