@@ -3,6 +3,7 @@ use Rattle.std.proofs.Common.{◌≡◌, ℕ, ◌≤◌, List, [], ◌∷◌, ma
 use Rattle.std.specs.Prelude.{codes}
 use Rattle.serde_json.specs.Data.{Data, string}
 use Rattle.serde_json.specs.Find.{as_str}
+use Rattle.homeo_lemmas.proofs.Lists.{cons_head, cons_tail}
 use Rattle.homeo_syntax.specs.declared.phrase.Compare.TheVariants.{Less, LessEqual, Equal}
 use Rattle.homeo_syntax.specs.declared.low.Temp.TheVariants.{Named, Fresh}
 use Rattle.homeo_plan.specs.declared.forms.Delta.{Delta}
@@ -15,7 +16,7 @@ use Rattle.homeo_certificate.specs.Text.{delta_data}
 use Rattle.homeo_cert_reader.specs.Read.{IsRead}
 use Rattle.homeo_cert_reader.specs.inner.Reading.{IsBare}
 use Rattle.homeo_certificate.specs.NodeShapes.{NodeInShape}
-use Rattle.homeo_cert_reader.proofs.ReadLists.{same_list, list_head, list_tail}
+use Rattle.homeo_cert_reader.proofs.ReadLists.{same_list}
 
 -- a name and numbers
 abbrev pub NamedData : List ℕ → List Data → Data
@@ -53,7 +54,7 @@ has_name (node.Write x j) = named (codes "write") (whole_data (pos x) ∷ whole_
 has_name (node.Delta x j) = named (codes "delta") (whole_data (pos x) ∷ whole_data (pos j) ∷ []) (node.Delta x j) refl (omega arith)
 
 numbers_of : (name s : List ℕ) (ds es : List Data) → NamedData name ds ≡ NamedData s es → ds ≡ es
-numbers_of name s ds es e = list_tail (string name) (string s) ds es (same_list (string name ∷ ds) (string s ∷ es) e)
+numbers_of name s ds es e = cons_tail (string name) (string s) ds es (same_list (string name ∷ ds) (string s ∷ es) e)
 
 counts_same : (name s : List ℕ) (ds es : List Data) → NamedData name ds ≡ NamedData s es → length ds ≡ length es
 counts_same name s ds es e = ap length (numbers_of name s ds es e)
@@ -78,7 +79,7 @@ module _ (d : Data) where
   pub no_text : (name : Data) (ds : List Data) → list_data (name ∷ ds) ≡ d → None ≡ as_str name → (m : Node) → node_data m ≡ d → ⊥
   no_text name ds is none m e =
       let f = has_name m in
-      let same : string f.name ≡ name = list_head (string f.name) name f.numbers ds (same_list (string f.name ∷ f.numbers) (name ∷ ds) (sym f.is ∙ e ∙ sym is)) in
+      let same : string f.name ≡ name = cons_head (string f.name) name f.numbers ds (same_list (string f.name ∷ f.numbers) (name ∷ ds) (sym f.is ∙ e ∙ sym is)) in
       let q : None ≡ Some f.name = none ∙ ap as_str (sym same) in
       absurd cc
 

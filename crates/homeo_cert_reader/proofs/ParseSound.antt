@@ -3,6 +3,7 @@ use Rattle.homeo_syntax.specs.Key.{definitions as syntax_definitions}
 use Rattle.homeo_plan.specs.Key.{definitions as plan_definitions}
 use Rattle.homeo_certificate.specs.Key.{definitions}
 use Rattle.std.proofs.Common.{◌≡◌, ℕ, zero, suc, ◌<◌, ◌≤◌, ◌^◌, List, [], ◌∷◌, ◌++◌, length, Option, Some, None, refl, sym, ap, ap₂, ◌∙◌, subst, arith, append_assoc}
+use Rattle.std.proofs.lemmas.Option.{same_Some}
 use Rattle.homeo_syntax.specs.declared.low.SplitName.TheVariants as split
 use Rattle.homeo_syntax.specs.declared.low.Temp.{Temp}
 use Rattle.homeo_syntax.specs.Low.{Expr, Exprs, Literal, OfTemp, Read, Sum, Product, Neg, Test, True, Not, Comparison, Command, Skip, Assign, Write, Print, Seq, If}
@@ -18,9 +19,6 @@ use Rattle.homeo_certificate.specs.NodeShapes.{NodeInShape}
 
 abbrev answer : {A : Type 0} → A → List Node → Option (A × List Node)
 answer a ns = Some (a, ns)
-
-some_is : {X : Type 0} (p q : X) → Some p ≡ Some q → p ≡ q
-some_is p q e = cc
 
 -- ---- what was read behind something
 record Then {A B : Type 0} (r : Option (A × List Node)) (f : A → Parse B) (b : B) (rest : List Node) : Type 0 where
@@ -41,7 +39,7 @@ record Seen {A B : Type 0} (f : A → B) (r : Option (A × List Node)) (b : B) (
 seen_parts : {A B : Type 0} (f : A → B) (r : Option (A × List Node)) (b : B) (rest : List Node) → seen f r ≡ Some (b, rest) → Seen f r b rest
 seen_parts f None b rest e = absurd cc
 seen_parts f (Some p) b rest e =
-    let both = some_is (f p.0, p.1) (b, rest) e in
+    let both = same_Some (f p.0, p.1) (b, rest) e in
     let same : f p.0 ≡ b = ap (λ x. x.0) both in
     let left : p.1 ≡ rest = ap (λ x. x.1) both in
     record { value = p.0; is = λ i. Some (p.0, left i); same = same }
@@ -65,7 +63,7 @@ many_sound :
     Got (all_nodes nodes) (λ ys. Each Good ys × (length ys ≡ n)) P ns xs rest
 unfolding definitions plan_definitions
 many_sound f nodes Good P h zero ns xs rest p e =
-    let both = some_is ([], ns) (xs, rest) e in
+    let both = same_Some ([], ns) (xs, rest) e in
     let q : [] ≡ xs = ap (λ x. x.0) both in
     let r : ns ≡ rest = ap (λ x. x.1) both in
     subst (λ ys. Got (all_nodes nodes) (λ zs. Each Good zs × (length zs ≡ 0)) P ns ys rest) q
@@ -114,7 +112,7 @@ module _ (n k : ℕ) where
   leaf : (m : ℕ) (k' : Node) (a : Expr) (ns rest : List Node) (e : Expr) → expr_nodes a ≡ k' ∷ [] → ExprInShape n k a → expr_nesting a ≡ 1 → Each (NodeInShape n k) ns → answer a ns ≡ answer e rest →
       Got expr_nodes (GoodExpr (suc m)) (NodeInShape n k) (k' ∷ ns) e rest
   leaf m k' a ns rest e nodes shape nests p q =
-      let both = some_is (a, ns) (e, rest) q in
+      let both = same_Some (a, ns) (e, rest) q in
       let same : a ≡ e = ap (λ x. x.0) both in
       let left : ns ≡ rest = ap (λ x. x.1) both in
       subst (λ x. Got expr_nodes (GoodExpr (suc m)) (NodeInShape n k) (k' ∷ ns) x rest) same
@@ -177,7 +175,7 @@ module _ (n k : ℕ) where
   test_sound zero ns t rest p q = none_test t rest q
   test_sound (suc m) [] t rest p q = none_test t rest q
   test_sound (suc m) (node.True ∷ ns) t rest p q =
-      let both = some_is (True, ns) (t, rest) q in
+      let both = same_Some (True, ns) (t, rest) q in
       subst (λ x. Got test_nodes (GoodTest (suc m)) (NodeInShape n k) (node.True ∷ ns) x rest) (ap (λ x. x.0) both)
       (record { is = ap (λ l. node.True ∷ l) (ap (λ x. x.1) both); good = (tt, omega arith); left = subst (Each (NodeInShape n k)) (ap (λ x. x.1) both) p.1 })
   test_sound (suc m) (node.Not c ∷ ns) t rest p q =
@@ -239,7 +237,7 @@ module _ (n k : ℕ) where
   temp_sound zero ns t rest p q = none_temp t rest q
   temp_sound (suc m) [] t rest p q = none_temp t rest q
   temp_sound (suc m) (node.Temp u ∷ ns) t rest p q =
-      let both = some_is (u, ns) (t, rest) q in
+      let both = same_Some (u, ns) (t, rest) q in
       subst (λ x. Got (λ u. node.Temp u ∷ []) (TempInShape n k) (NodeInShape n k) (node.Temp u ∷ ns) x rest) (ap (λ x. x.0) both)
       (record { is = ap (λ l. node.Temp u ∷ l) (ap (λ x. x.1) both); good = p.0; left = subst (Each (NodeInShape n k)) (ap (λ x. x.1) both) p.1 })
   temp_sound (suc m) (node.Skip ∷ ns) t rest p q = none_temp t rest q
@@ -263,7 +261,7 @@ module _ (n k : ℕ) where
   command_sound zero ns c rest p q = none_command c rest q
   command_sound (suc m) [] c rest p q = none_command c rest q
   command_sound (suc m) (node.Skip ∷ ns) c rest p q =
-      let both = some_is (Skip, ns) (c, rest) q in
+      let both = same_Some (Skip, ns) (c, rest) q in
       subst (λ x. Got command_nodes (GoodCommand (suc m)) (NodeInShape n k) (node.Skip ∷ ns) x rest) (ap (λ x. x.0) both)
       (record { is = ap (λ l. node.Skip ∷ l) (ap (λ x. x.1) both); good = (tt, omega arith); left = subst (Each (NodeInShape n k)) (ap (λ x. x.1) both) p.1 })
   command_sound (suc m) (node.Assign ∷ ns) c rest p q =

@@ -1,6 +1,7 @@
 -- Reading one node, and then its parts.
 use Rattle.homeo_certificate.specs.Key.{definitions}
 use Rattle.std.proofs.Common.{◌≡◌, ℕ, zero, suc, ◌-◌, ◌<◌, List, [], ◌∷◌, ◌++◌, Option, Some, None, option_map, refl, ap, ap₂, ◌∙◌, subst, arith}
+use Rattle.std.proofs.lemmas.List.{append-nil}
 use Rattle.homeo_certificate.specs.declared.nodes.Node.{Node}
 use Rattle.homeo_certificate.specs.declared.nodes.Node.TheVariants as node
 use Rattle.homeo_certificate.specs.Parse.{Parse, then, seen, many, parse_expr, parse_test, parse_temp, parse_command, Gives}
@@ -193,13 +194,9 @@ pub with_failed : {A : Type 0} (f : Parse A) (n : ℕ) (xs : List A) (ns : List 
 unfolding definitions
 with_failed f n xs ns e = ap (λ r. with_read xs (then r (λ a left. seen (λ more. a ∷ more) (many f n left)))) e
 
-append_none : {A : Type 0} (xs : List A) → xs ++ [] ≡ xs
-append_none [] = refl
-append_none (x ∷ xs) = ap (λ l. x ∷ l) (append_none xs)
-
 pub with_all : {A : Type 0} (f : Parse A) (xs : List A) (ns : List Node) → with_read xs (many f 0 ns) ≡ Some (xs, ns)
 unfolding definitions
-with_all f xs ns = ap (λ l. Some (l, ns)) (append_none xs)
+with_all f xs ns = ap (λ l. Some (l, ns)) (append-nil xs)
 
 -- ---- what a call gave
 pub given_some :

@@ -5,6 +5,7 @@ use Rattle.std.proofs.lemmas.List.{map_more, map-append, take_all}
 use Rattle.serde_json.specs.Data.{Data, null, boolean, number, string, array, object, Members, no_members, member, Items, no_items, item}
 use Rattle.serde_json.specs.Find.{as_object}
 use Rattle.serde_json.specs.View.{items_of}
+use Rattle.homeo_lemmas.proofs.Lists.{cons_head, cons_tail}
 use Rattle.homeo_plan.specs.Each.{Each}
 use Rattle.homeo_certificate.specs.Json.{list_data}
 use Rattle.homeo_cert_reader.specs.Read.{IsRead, AreRead}
@@ -13,12 +14,6 @@ each_more : {A : Type 0} (P : A → Type 0) (xs : List A) (x : A) → Each P xs 
 unfolding plan_definitions
 each_more P [] x h p = (p, tt)
 each_more P (y ∷ xs) x h p = (h.0, each_more P xs x h.1 p)
-
-pub list_head : {X : Type 0} (x y : X) (xs ys : List X) → x ∷ xs ≡ y ∷ ys → x ≡ y
-list_head x y xs ys e = cc
-
-pub list_tail : {X : Type 0} (x y : X) (xs ys : List X) → x ∷ xs ≡ y ∷ ys → xs ≡ ys
-list_tail x y xs ys e = cc
 
 -- the first n of the values have been read
 module _ {A V : Type 0} (P : A → Type 0) (f : A → Data) (g : V → Data) (vs : List V) where
@@ -47,9 +42,9 @@ pub none_if :
 unfolding plan_definitions
 none_if P f g [] n d l h xs e q = absurd (omega (arith, l))
 none_if P f g (v ∷ vs) n d l h [] e q = absurd cc
-none_if P f g (v ∷ vs) zero d l h (x ∷ xs) e q = h x e.0 (list_head (f x) (g v) (map f xs) (map g vs) q)
+none_if P f g (v ∷ vs) zero d l h (x ∷ xs) e q = h x e.0 (cons_head (f x) (g v) (map f xs) (map g vs) q)
 none_if P f g (v ∷ vs) (suc n) d l h (x ∷ xs) e q =
-    none_if P f g vs n d (omega (arith, l)) h xs e.1 (list_tail (f x) (g v) (map f xs) (map g vs) q)
+    none_if P f g vs n d (omega (arith, l)) h xs e.1 (cons_tail (f x) (g v) (map f xs) (map g vs) q)
 
 -- ---- lists as JSON values
 abbrev items_list : Items → List Data
