@@ -1,12 +1,13 @@
 -- Commands that are followed one after another.
 use Rattle.std.proofs.Common.{◌≡◌, ℕ, ◌+◌, ◌<◌, ◌≤◌, Bool, true, false, cond, List, [], ◌++◌, map, drop, get_or, length, Result, refl, sym, ap, ap₂, ◌∙◌, subst, append_assoc}
 use Rattle.std.specs.List.{flat_map}
+use Rattle.homeo_lemmas.proofs.Lists.{map_drop_past}
 use Rattle.homeo_syntax.specs.Key.{definitions as syntax_definitions}
 use Rattle.homeo_syntax.specs.declared.low.LCommand.{LCommand}
 use Rattle.homeo_syntax.specs.Low.{Cond, Command, Commands, Skip, Seq, If, NoCommand, MoreCommand}
 use Rattle.homeo_syntax.specs.LowView.{low_commands, plain_lcommand}
 use Rattle.homeo_meaning.specs.LowMeaning.{DeltaAt, holds}
-use Rattle.homeo_meaning.proofs.Steps.{drop_next, drop_none}
+use Rattle.homeo_meaning.proofs.Steps.{drop_next}
 use Rattle.homeo_plan.specs.declared.forms.Delta.{Delta}
 use Rattle.homeo_plan.specs.Linear.{Forms, base_forms}
 use Rattle.homeo_certificate.specs.Key.{definitions}
@@ -67,7 +68,7 @@ next_command before s cs i c all l e so = subst (λ x. CommandsSoFar before s (l
 pub last_command : (before s : Following) (cs : List LCommand) (i : ℕ) (all : Commands) → length cs ≤ i →
     CommandsSoFar before s (low_commands (map plain_lcommand (drop i cs))) all → CommandsSoFar before s NoCommand all
 unfolding syntax_definitions
-last_command before s cs i all l so = subst (λ x. CommandsSoFar before s (low_commands x) all) (drop_none plain_lcommand cs i l) so
+last_command before s cs i all l so = subst (λ x. CommandsSoFar before s (low_commands x) all) (map_drop_past plain_lcommand cs i l) so
 
 -- ---- each kind of command
 pub skip_follows : (s : Following) → Follows Skip s s

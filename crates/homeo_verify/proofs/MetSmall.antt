@@ -1,10 +1,10 @@
 -- Where none of the numbers that are met in a form is too large, the numbers of the form are small as homeo_plan says it.
-use Rattle.std.proofs.Common.{◌≡◌, ◌≤◌, Bool, true, false, cond, ◌&&◌, List, [], ◌∷◌, ◌++◌, map, ℤ, pos, negsuc, neg_ℤ, ◌*ℤ◌, refl, sym, subst, arith}
+use Rattle.std.proofs.Common.{◌≡◌, ◌≤◌, Bool, true, false, cond, List, [], ◌∷◌, ◌++◌, map, ℤ, pos, negsuc, neg_ℤ, ◌*ℤ◌, refl, sym, subst, arith}
 use Rattle.std.specs.Int.RustNames.{unsigned_abs}
 use Rattle.std.specs.Ordering.{int_eq}
 use Rattle.std.specs.List.{list_all}
 use Rattle.std.proofs.lemmas.Int.{ints}
-use Rattle.std.proofs.lemmas.Bool.{and_parts}
+use Rattle.std.proofs.lemmas.Bool.{and_parts, and_from}
 use Rattle.std.proofs.lemmas.Bool.Decides.{nat_tests}
 use Rattle.homeo_syntax.specs.Low.{Expr, Exprs, Literal, OfTemp, Read, Sum, Product, Neg, NoExpr, MoreExpr}
 use Rattle.homeo_meaning.specs.Key.{definitions as meaning_definitions}
@@ -34,11 +34,7 @@ both_parts [] ys h = (refl, h)
 both_parts (x ∷ xs) ys h =
     let p = and_parts (is_small form_limit x) (list_all (is_small form_limit) (xs ++ ys)) h in
     let q = both_parts xs ys p.1 in
-    (more (is_small form_limit x) (list_all (is_small form_limit) xs) p.0 q.0, q.1)
-  where
-    more : (x y : Bool) → x ≡ true → y ≡ true → (x && y) ≡ true
-    more true y e f = f
-    more false y e f = absurd cc
+    (and_from (is_small form_limit x) (list_all (is_small form_limit) xs) p.0 q.0, q.1)
 
 factors_are : (ts : List Term) → AllSmall (map (λ t. t.factor) ts) → Each (λ t. Small t.factor) ts
 unfolding plan_definitions

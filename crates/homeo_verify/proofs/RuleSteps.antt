@@ -1,5 +1,5 @@
 -- Deltas that are frozen one after another, and clauses that keep a form.
-use Rattle.std.proofs.Common.{◌≡◌, ℕ, suc, ◌+◌, ◌<◌, ◌≤◌, Bool, true, false, not, cond, List, [], ◌∷◌, ◌++◌, drop, get_or, length, pos, arith, refl, sym, ap, ◌∙◌, add-one, drop_of_length-le}
+use Rattle.std.proofs.Common.{◌≡◌, ℕ, suc, ◌+◌, ◌<◌, ◌≤◌, Bool, true, false, cond, List, [], ◌∷◌, ◌++◌, drop, get_or, length, pos, arith, refl, sym, ap, ◌∙◌, add-one, drop_of_length-le}
 use Rattle.std.specs.List.{list_any}
 use Rattle.std.proofs.Math.Seq.{drop-cons}
 use Rattle.homeo_meaning.specs.Key.{definitions as meaning_definitions}
@@ -14,14 +14,6 @@ use Rattle.homeo_certificate.specs.declared.fault.Fault.TheVariants.{NotFrozen, 
 use Rattle.homeo_verify.specs.declared.stop.Stop.TheVariants as stop
 use Rattle.homeo_certificate.specs.Followed.{Rules, not_frozen, keeps, no_clause}
 use Rattle.homeo_verify.specs.inner.Stops.{StopsAt}
-
-pub is_false : (v : Bool) → not v ≡ true → v ≡ false
-is_false true n = sym n
-is_false false n = refl
-
-pub is_true : (v : Bool) → not v ≡ false → v ≡ true
-is_true true n = refl
-is_true false n = sym n
 
 module _ (r : Rules) (ds : List Delta) (i : ℕ) where
   module _ (d z : Delta) (l : i < length ds) (e : d ≡ get_or ds i z) (so : not_frozen r (drop i ds) ≡ not_frozen r ds) (v : Bool) (is : v ≡ list_any (same_delta d) r.freezes) where

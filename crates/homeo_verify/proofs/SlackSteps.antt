@@ -2,7 +2,7 @@
 use Rattle.std.proofs.Common.{◌≡◌, ℕ, ℤ, Bool, true, false, cond, ◌||◌, ◌&&◌, ◌==◌, Option, Some, None, List, [], ◌∷◌, map, int_le, refl, sym, ap, ap₂, ◌∙◌, arith, Vec, Global}
 use Rattle.std.specs.declared.cmp.Ordering.{Ordering}
 use Rattle.std.specs.declared.cmp.Ordering.TheVariants.{Less, Equal, Greater}
-use Rattle.std.specs.Ordering.{nat_cmp, int_cmp, ordering_then, ordering_reverse, is_eq, int_eq}
+use Rattle.std.specs.Ordering.{nat_cmp, int_cmp, ordering_reverse, is_eq, int_eq}
 use Rattle.std.specs.Cmp.Lexicographic.{slice_cmp}
 use Rattle.std.specs.Cmp.{IsTotalOrder}
 use Rattle.std.specs.BTreeMap.{get_by}
@@ -10,6 +10,7 @@ use Rattle.std.specs.Map.{lookup}
 use Rattle.std.proofs.lemmas.Cmp.{nat_cmp_total, int_cmp_total, on_total, then_total, lists_total}
 use Rattle.std.proofs.lemmas.Bool.Decides.{nat_tests}
 use Rattle.std.proofs.lemmas.Int.{ints}
+use Rattle.homeo_lemmas.proofs.Bools.{then_equal, and_assoc, or_neither}
 use Rattle.homeo_plan.specs.Key.{definitions as plan_definitions}
 use Rattle.homeo_plan.specs.Template.{Clause, same_term, same_terms}
 use Rattle.homeo_verify.specs.declared.table.TermKey.{TermKey}
@@ -25,34 +26,25 @@ pub keys_total : IsTotalOrder keys_cmp
 keys_total = lists_total key_total
 
 -- ---- keys that compare equal have the same terms
-then_both : (o p : Ordering) → is_eq (ordering_then o p) ≡ (is_eq o && is_eq p)
-then_both Less p = refl
-then_both Equal p = refl
-then_both Greater p = refl
-
 nat_same : (m n : ℕ) → is_eq (nat_cmp m n) ≡ (m == n)
 nat_same m n = grind (arith, nat_tests)
 
 int_same : (m n : ℤ) → is_eq (int_cmp m n) ≡ int_eq m n
 int_same m n = grind (arith, ints)
 
-and-assoc : (a b c : Bool) → (a && (b && c)) ≡ ((a && b) && c)
-and-assoc true b c = refl
-and-assoc false b c = refl
-
 key_same : (a b : TermKey) → is_eq (key_cmp a b) ≡ same_term (term_of a) (term_of b)
 unfolding plan_definitions
 key_same a b =
-    then_both (nat_cmp a.object b.object) _
-    ∙ ap₂ ◌&&◌ (nat_same a.object b.object) (then_both (nat_cmp a.site b.site) (int_cmp a.factor b.factor) ∙ ap₂ ◌&&◌ (nat_same a.site b.site) (int_same a.factor b.factor))
-    ∙ and-assoc (a.object == b.object) (a.site == b.site) (int_eq a.factor b.factor)
+    then_equal (nat_cmp a.object b.object) _
+    ∙ ap₂ ◌&&◌ (nat_same a.object b.object) (then_equal (nat_cmp a.site b.site) (int_cmp a.factor b.factor) ∙ ap₂ ◌&&◌ (nat_same a.site b.site) (int_same a.factor b.factor))
+    ∙ and_assoc (a.object == b.object) (a.site == b.site) (int_eq a.factor b.factor)
 
 pub keys_same : (xs ys : List TermKey) → is_eq (keys_cmp xs ys) ≡ same_terms (map term_of xs) (map term_of ys)
 unfolding plan_definitions
 keys_same [] [] = refl
 keys_same [] (y ∷ ys) = refl
 keys_same (x ∷ xs) [] = refl
-keys_same (x ∷ xs) (y ∷ ys) = then_both (key_cmp x y) (keys_cmp xs ys) ∙ ap₂ ◌&&◌ (key_same x y) (keys_same xs ys)
+keys_same (x ∷ xs) (y ∷ ys) = then_equal (key_cmp x y) (keys_cmp xs ys) ∙ ap₂ ◌&&◌ (key_same x y) (keys_same xs ys)
 
 -- ---- least slacks
 abbrev at : Slacks → List TermKey → Option ℤ
@@ -91,10 +83,6 @@ less : (o : Option ℤ) (n s : ℤ) → is_at_most o n ≡ false → int_le n s 
 less None n s h = refl
 less (Some k) n s h = grind (arith, ints)
 
-or_no : (b c : Bool) → b ≡ (b || (false && c))
-or_no true c = refl
-or_no false c = refl
-
 module _ (m : Slacks) (key : List TermKey) (ts : List TermKey) (s : ℤ) (c : Clause) (is : map term_of key ≡ c.terms) where
   same_is : is_eq (keys_cmp ts key) ≡ same_terms (map term_of ts) c.terms
   same_is = keys_same ts key ∙ ap (same_terms (map term_of ts)) is
@@ -104,7 +92,7 @@ module _ (m : Slacks) (key : List TermKey) (ts : List TermKey) (s : ℤ) (c : Cl
     where
       go : (v : Bool) → is_eq (keys_cmp ts key) ≡ v → is_within m ts s ≡ (is_within m ts s || (v && int_le c.slack s))
       go true e = ap (λ o. is_at_most o s) (at_same m ts key e) ∙ enough (at m key) c.slack s h ∙ ap (λ o. is_at_most o s || int_le c.slack s) (sym (at_same m ts key e))
-      go false e = or_no (is_within m ts s) (int_le c.slack s)
+      go false e = or_neither (is_within m ts s) (int_le c.slack s)
 
   pub put_less :
       (n : Slacks) → at n ts ≡ cond (is_eq (keys_cmp key ts)) (Some c.slack) (at m ts) → is_within m key c.slack ≡ false →
@@ -116,4 +104,4 @@ module _ (m : Slacks) (key : List TermKey) (ts : List TermKey) (s : ℤ) (c : Cl
       go true t e =
           ap (λ b. is_at_most (cond b (Some c.slack) (at m ts)) s) (t ∙ e) ∙ less (at m key) c.slack s h
           ∙ ap (λ o. is_at_most o s || int_le c.slack s) (sym (at_same m ts key e))
-      go false t e = ap (λ b. is_at_most (cond b (Some c.slack) (at m ts)) s) (t ∙ e) ∙ or_no (is_within m ts s) (int_le c.slack s)
+      go false t e = ap (λ b. is_at_most (cond b (Some c.slack) (at m ts)) s) (t ∙ e) ∙ or_neither (is_within m ts s) (int_le c.slack s)

@@ -32,9 +32,5 @@ pub on_ok_always : {A E P : Type 0} (r : Result A E) → P → OnOk r P
 on_ok_always (Ok a) p = p
 on_ok_always (Err e) p = tt
 
-pub on_ok_as : {A E P Q : Type 0} (r : Result A E) → (P → Q) → OnOk r P → OnOk r Q
-on_ok_as (Ok a) f p = f p
-on_ok_as (Err e) f p = tt
-
 pub stops_as : (fs gs : List Fault) (e : Stop) → fs ≡ gs → StopsAt fs e → StopsAt gs e
 stops_as fs gs e q h = subst (λ l. StopsAt l e) q h

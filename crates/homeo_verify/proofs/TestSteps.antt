@@ -2,6 +2,7 @@
 use Rattle.std.proofs.Common.{◌≡◌, ℕ, ◌+◌, ◌<◌, ◌≤◌, Bool, true, false, not, cond, ◌&&◌, List, [], ◌∷◌, ◌++◌, map, drop, get_or, length, refl, sym, ap, ap₂, ◌∙◌, subst, true≢false, append-nil, append_assoc}
 use Rattle.std.specs.List.{flat_map}
 use Rattle.std.proofs.lemmas.List.Concat.{flat_map-append}
+use Rattle.homeo_lemmas.proofs.Lists.{map_drop_past}
 use Rattle.homeo_syntax.specs.Key.{definitions as syntax_definitions}
 use Rattle.homeo_syntax.specs.declared.phrase.Compare.{Compare}
 use Rattle.homeo_syntax.specs.declared.low.LTest.{LTest}
@@ -10,10 +11,11 @@ use Rattle.homeo_syntax.specs.LowView.{low_tests, plain_ltest}
 use Rattle.homeo_meaning.specs.Key.{definitions as meaning_definitions}
 use Rattle.homeo_meaning.specs.Meaning.{compared}
 use Rattle.homeo_meaning.specs.LowMeaning.{passes, holds}
-use Rattle.homeo_meaning.proofs.Steps.{drop_next, drop_none}
+use Rattle.homeo_meaning.proofs.Steps.{drop_next}
 use Rattle.homeo_plan.specs.Key.{definitions as plan_definitions}
 use Rattle.homeo_plan.specs.Each.{Each}
 use Rattle.homeo_plan.specs.Linear.{Linear, Forms, form}
+use Rattle.homeo_plan.proofs.Atoms.{append_each}
 use Rattle.homeo_certificate.specs.Key.{definitions}
 use Rattle.homeo_verify.specs.declared.stop.Stop.{Stop}
 use Rattle.homeo_verify.specs.declared.conditions.Compared.{Compared}
@@ -24,7 +26,6 @@ use Rattle.homeo_verify.specs.inner.Compares.{atoms_of, AreSmall, Give, kept_in_
 use Rattle.homeo_verify.specs.inner.Stops.{StopsAt}
 use Rattle.homeo_certificate.proofs.Constants.{constant_is}
 use Rattle.homeo_verify.proofs.LargeNumbers.{large_behind, none_large, large_in_front}
-use Rattle.homeo_certificate.proofs.SmallMet.{each_append}
 
 module _ (f : Forms) where
   -- what keeps a condition whose first tests pass, and have these atoms
@@ -87,7 +88,7 @@ module _ (f : Forms) where
             atoms =
                 ap (λ ys. kept_from ys c) (flat_map-append atoms_of cs more ∙ ap (λ ys. flat_map atoms_of cs ++ ys) give.atoms)
                 ∙ kept_more (flat_map atoms_of cs) t c p ∙ s.atoms;
-            each = each_append AreSmall cs more s.each give.small;
+            each = append_each AreSmall cs more s.each give.small;
           })
 
       module _ (fails : v ≡ false) where
@@ -127,7 +128,7 @@ module _ (f : Forms) where
   pub last_test : (cs : List Compared) (ts : List LTest) (i : ℕ) (all : Cond) → length ts ≤ i → TestsSoFar cs (low_tests (map plain_ltest (drop i ts))) all →
       TestsSoFar cs NoTest all
   unfolding syntax_definitions
-  last_test cs ts i all l s = subst (λ c. TestsSoFar cs (low_tests c) all) (drop_none plain_ltest ts i l) s
+  last_test cs ts i all l s = subst (λ c. TestsSoFar cs (low_tests c) all) (map_drop_past plain_ltest ts i l) s
 
   -- ---- each kind of test
   pub true_gives : (cs : List Compared) → cs ≡ [] → Give cs (kept_in_test f True)

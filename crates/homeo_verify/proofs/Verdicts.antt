@@ -6,11 +6,13 @@ use Rattle.std.specs.List.{list_all}
 use Rattle.std.proofs.lemmas.Int.{ints, to_z-of_z}
 use Rattle.std.proofs.lemmas.Bool.Decides.{same_from_decides, Decides-eqb, Decides-int_eq}
 use Rattle.std.proofs.Math.Seq.{drop-cons}
-use Rattle.homeo_meaning.proofs.Steps.{drop_next, drop_none}
+use Rattle.homeo_lemmas.proofs.Lists.{map_drop_past}
+use Rattle.homeo_meaning.proofs.Steps.{drop_next}
 use Rattle.homeo_plan.specs.Key.{definitions as plan_definitions}
 use Rattle.homeo_plan.specs.Config.{Config, total}
 use Rattle.homeo_plan.specs.Each.{Each}
 use Rattle.homeo_plan.specs.Template.{Clause}
+use Rattle.homeo_plan.proofs.Atoms.{append_each}
 use Rattle.homeo_certificate.specs.Key.{definitions}
 use Rattle.homeo_cert_reader.specs.declared.calls.Call as code
 use Rattle.homeo_certificate.specs.declared.fault.Fault.{Fault}
@@ -25,7 +27,6 @@ use Rattle.homeo_certificate.specs.Text.{certificate_data, IsJsonOf}
 use Rattle.homeo_certificate.specs.Verdict.{fits_slack, misfits, at_call, faults_from, first_of_all, verdict_of, IsOfCertificate, IsVerdictOn}
 use Rattle.homeo_cert_reader.specs.CertificateView.{plain_call}
 use Rattle.homeo_verify.specs.inner.Stops.{StopsAt}
-use Rattle.homeo_certificate.proofs.SmallMet.{each_append}
 
 pub first_of_some : (ms fs : List Verdict) (n : ℕ) → first_of_all ms ≡ verdict.Bounds n → first_of_all (ms ++ fs) ≡ verdict.Bounds n
 unfolding definitions
@@ -62,7 +63,7 @@ faults_are n (ForeignWrite ∷ fs) = (tt, faults_are n fs)
 all_are : (n : ℕ) (c : Certificate) (gs : List Call) → Each OfCertificate (faults_from n c gs)
 unfolding definitions plan_definitions
 all_are n c [] = tt
-all_are n c (g ∷ gs) = each_append OfCertificate (map (at_call n) (call_faults c g)) (faults_from (suc n) c gs) (faults_are n (call_faults c g)) (all_are (suc n) c gs)
+all_are n c (g ∷ gs) = append_each OfCertificate (map (at_call n) (call_faults c g)) (faults_from (suc n) c gs) (faults_are n (call_faults c g)) (all_are (suc n) c gs)
 
 first_is : (vs : List Verdict) → Each OfCertificate vs → OfCertificate (first_of_all vs)
 unfolding definitions plan_definitions
@@ -85,7 +86,7 @@ unfolding definitions
 verdict_on bytes c v shape json e =
     let ms = misfits 0 c.clauses c.bounds in
     let fs = faults_from 0 c c.calls in
-    let o = first_is (ms ++ fs) (each_append OfCertificate ms fs (misfits_are 0 c.clauses c.bounds) (all_are 0 c c.calls)) in
+    let o = first_is (ms ++ fs) (append_each OfCertificate ms fs (misfits_are 0 c.clauses c.bounds) (all_are 0 c c.calls)) in
     on_bytes bytes v (subst OfCertificate (sym e) o) (record { certificate = c; shape = shape; json = json; verdict = e })
 
 -- ---- calls that are judged one after another
@@ -111,7 +112,7 @@ module _ (c : Certificate) (gs : List code.Call) (i n : ℕ) where
 
   pub calls_end : length gs ≤ i → CallsSoFar → verdict.Valid ≡ first_of_all (faults_from 0 c (map plain_call gs))
   unfolding definitions
-  calls_end l so = ap first_of_all (sym (ap (faults_from n c) (drop_none plain_call gs i l)) ∙ so)
+  calls_end l so = ap first_of_all (sym (ap (faults_from n c) (map_drop_past plain_call gs i l)) ∙ so)
 
 -- ---- clauses whose bounds are looked at one after another
 pub no_misfit_left : (n : ℕ) (cs : List Clause) (bs : Config) → cs ≡ [] → misfits n cs bs ≡ []

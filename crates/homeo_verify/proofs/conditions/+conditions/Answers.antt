@@ -1,5 +1,6 @@
 -- Each kind of test, and one more test of a condition.
 use Rattle.std.proofs.Common.{◌≡◌, ◌+◌, map, drop, not, sym, ap, ◌∙◌, subst}
+use Rattle.std.proofs.lemmas.Bool.{not-true, not-false}
 use Rattle.homeo_syntax.specs.Low.{Not}
 use Rattle.homeo_syntax.specs.LowView.{low_tests, plain_ltest, plain_lcond}
 use Rattle.homeo_syntax.proofs.LowViews.{low_True, low_Not}
@@ -10,7 +11,6 @@ use Rattle.homeo_certificate.specs.Key.{definitions}
 use Rattle.homeo_certificate.specs.Met.{at_zero, met_in_test}
 use Rattle.homeo_certificate.specs.Followed.{too_large}
 use Rattle.homeo_verify.specs.inner.Compares.{Give, kept_in_test}
-use Rattle.homeo_verify.proofs.RuleSteps.{is_false, is_true}
 use Rattle.homeo_verify.proofs.Stopping.{stop_with, stops_as}
 use Rattle.homeo_verify.proofs.TestSteps.{true_gives, not_gives, tests_start, next_test, last_test, test_stops, test_goes_on, fails_small, fails_holds, fails_give, tests_small, tests_hold, tests_give}
 use Rattle.homeo_verify.proofs.conditions.+conditions.Goals as goal
@@ -78,7 +78,7 @@ tests-returns-then-not-tested-clause-faults t c =
     let s = next_test f c.loop-t.compared.items c.args.ts.now c.loop-t.t-index c.t-item.result all c.loop-t-test.true c.t-item.is c.loop-t.invariant in
     let k = c.in_ok-tested.tested in
     let e = c.in_ok-tested.ensures in
-    fails_small f c.loop-t.compared.items (plain_ltest c.t-item.result) rest all s k.holds k.compared.items e.faults e.holds e.kept (is_false k.holds c.if-not-tested.true)
+    fails_small f c.loop-t.compared.items (plain_ltest c.t-item.result) rest all s k.holds k.compared.items e.faults e.holds e.kept (not-true k.holds c.if-not-tested.true)
 
 pub tests-returns-then-not-tested-clause-holds : goal.tests-returns-then-not-tested-clause-holds
 tests-returns-then-not-tested-clause-holds t c =
@@ -88,7 +88,7 @@ tests-returns-then-not-tested-clause-holds t c =
     let s = next_test f c.loop-t.compared.items c.args.ts.now c.loop-t.t-index c.t-item.result all c.loop-t-test.true c.t-item.is c.loop-t.invariant in
     let k = c.in_ok-tested.tested in
     let e = c.in_ok-tested.ensures in
-    fails_holds f c.loop-t.compared.items (plain_ltest c.t-item.result) rest all s k.holds k.compared.items e.faults e.holds e.kept (is_false k.holds c.if-not-tested.true)
+    fails_holds f c.loop-t.compared.items (plain_ltest c.t-item.result) rest all s k.holds k.compared.items e.faults e.holds e.kept (not-true k.holds c.if-not-tested.true)
 
 pub tests-returns-then-not-tested-clause-kept : goal.tests-returns-then-not-tested-clause-kept
 tests-returns-then-not-tested-clause-kept t c =
@@ -98,7 +98,7 @@ tests-returns-then-not-tested-clause-kept t c =
     let s = next_test f c.loop-t.compared.items c.args.ts.now c.loop-t.t-index c.t-item.result all c.loop-t-test.true c.t-item.is c.loop-t.invariant in
     let k = c.in_ok-tested.tested in
     let e = c.in_ok-tested.ensures in
-    fails_give f c.loop-t.compared.items (plain_ltest c.t-item.result) rest all s k.holds k.compared.items e.faults e.holds e.kept (is_false k.holds c.if-not-tested.true)
+    fails_give f c.loop-t.compared.items (plain_ltest c.t-item.result) rest all s k.holds k.compared.items e.faults e.holds e.kept (not-true k.holds c.if-not-tested.true)
 
 pub tests-loop-t-preserved : goal.tests-loop-t-preserved
 tests-loop-t-preserved t c =
@@ -108,7 +108,7 @@ tests-loop-t-preserved t c =
     let s = next_test f c.loop-t.compared.items c.args.ts.now c.loop-t.t-index c.t-item.result all c.loop-t-test.true c.t-item.is c.loop-t.invariant in
     let k = c.in_ok-tested.tested in
     let e = c.in_ok-tested.ensures in
-    test_goes_on f c.loop-t.compared.items (plain_ltest c.t-item.result) rest all s k.holds k.compared.items e.faults e.holds e.kept (is_true k.holds c.if-not-tested.false) _
+    test_goes_on f c.loop-t.compared.items (plain_ltest c.t-item.result) rest all s k.holds k.compared.items e.faults e.holds e.kept (not-false k.holds c.if-not-tested.false) _
     c.in_ok-push_all.ensures
 
 pub tests-returns-clause-faults : goal.tests-returns-clause-faults

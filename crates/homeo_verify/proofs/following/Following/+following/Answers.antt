@@ -1,5 +1,6 @@
 -- Each kind of command, and one more command.
 use Rattle.std.proofs.Common.{◌≡◌, ◌+◌, map, drop, sym, ap, ◌∙◌, subst}
+use Rattle.std.proofs.lemmas.Result.{on_ok_weaker}
 use Rattle.homeo_syntax.specs.Low.{Seq, If}
 use Rattle.homeo_syntax.specs.LowView.{low_commands, plain_lcommand, plain_lcond}
 use Rattle.homeo_syntax.proofs.LowViews.{low_Skip, low_Seq, low_If}
@@ -8,7 +9,7 @@ use Rattle.homeo_certificate.specs.Followed.{faults}
 use Rattle.homeo_verify.specs.inner.Follows.{Follows, rules_in, forms_in}
 use Rattle.homeo_verify.specs.inner.Stops.{Finds}
 use Rattle.homeo_verify.proofs.FollowSteps.{commands_start, command_stops, command_goes_on, commands_faultless, commands_followed, next_command, last_command, skip_follows, seq_follows, if_stops, yes_finds, no_finds, yes_follows, no_follows}
-use Rattle.homeo_verify.proofs.Stopping.{stop_with, stops_as, on_ok_as}
+use Rattle.homeo_verify.proofs.Stopping.{stop_with, stops_as}
 use Rattle.homeo_verify.proofs.following.Following.+following.Goals as goal
 
 pub follow-returns-in-Skip-clause-faults : goal.follow-returns-in-Skip-clause-faults
@@ -35,7 +36,7 @@ follow-returns-in-Seq-clause-after t c =
     let s = c.args.self.now in
     let is : plain_lcommand c.args.command.now ≡ Seq (low_commands (map plain_lcommand c.as_slice.result.now)) =
     ap plain_lcommand c.in-Seq.is ∙ low_Seq c.in-Seq.commands ∙ ap (λ l. Seq (low_commands (map plain_lcommand l))) (sym c.as_slice.ensures) in
-    on_ok_as c.follow_all.result (λ f. subst (λ x. Follows x s c.follow_all.new.self) (sym is) (seq_follows (low_commands (map plain_lcommand c.as_slice.result.now)) s c.follow_all.new.self f)) c.follow_all.ensures.after
+    on_ok_weaker c.follow_all.result (λ f. subst (λ x. Follows x s c.follow_all.new.self) (sym is) (seq_follows (low_commands (map plain_lcommand c.as_slice.result.now)) s c.follow_all.new.self f)) c.follow_all.ensures.after
 
 pub follow-returns-in_err-branch-in-If-clause-faults : goal.follow-returns-in_err-branch-in-If-clause-faults
 follow-returns-in_err-branch-in-If-clause-faults t c =
@@ -102,7 +103,7 @@ follow-returns-then-branch-clause-after t c =
     let no = plain_lcommand c.in-If.no.value in
     let is : plain_lcommand c.args.command.now ≡ If b yes no = ap plain_lcommand c.in-If.is ∙ low_If c.in-If.test c.in-If.yes c.in-If.no in
     let test = c.in_ok-branch-in-If.ensures in
-    on_ok_as c.follow.result
+    on_ok_weaker c.follow.result
     (λ f. subst (λ x. Follows x s c.follow.new.self) (sym is)
     (yes_follows b yes no s c.in_ok-branch-in-If.field-0 test.taken c.follow.new.self c.if-branch.true (subst (λ x. Follows (plain_lcommand x) s c.follow.new.self) c.deref.ensures f))) c.follow.ensures.after
 
@@ -126,6 +127,6 @@ follow-returns-else-branch-clause-after t c =
     let no = plain_lcommand c.in-If.no.value in
     let is : plain_lcommand c.args.command.now ≡ If b yes no = ap plain_lcommand c.in-If.is ∙ low_If c.in-If.test c.in-If.yes c.in-If.no in
     let test = c.in_ok-branch-in-If.ensures in
-    on_ok_as c.follow-else-branch.result
+    on_ok_weaker c.follow-else-branch.result
     (λ f. subst (λ x. Follows x s c.follow-else-branch.new.self) (sym is)
     (no_follows b yes no s c.in_ok-branch-in-If.field-0 test.taken c.follow-else-branch.new.self c.if-branch.false (subst (λ x. Follows (plain_lcommand x) s c.follow-else-branch.new.self) c.deref-else-branch.ensures f))) c.follow-else-branch.ensures.after
