@@ -13,7 +13,7 @@ use Rattle.homeo_history.specs.History.{History}
 use Rattle.homeo_history.specs.Legal.{IsLegalFrom}
 use Rattle.homeo_history.specs.Follows.{Follows}
 use Rattle.homeo_history.proofs.OneHistories.{one_history}
-use Rattle.homeo_reader.proofs.Unread.{one_reading, unread, one_refusal as one_unread}
+use Rattle.homeo_reader.proofs.Unread.{one_reading, unread, one_refusal as one_unread, same_parts}
 use Rattle.homeo_reader.specs.Stands.{EndsLexeme}
 use Rattle.homeo_rules.proofs.OneDecides.{one_refusal as one_broken}
 use Rattle.homeo_accept.specs.RefusalLine.{refusal_line}
@@ -24,14 +24,10 @@ use Rattle.homeo_frames.specs.LastLines.{without_last_line}
 use Rattle.homeo_session.specs.Key.{definitions}
 use Rattle.homeo_session.specs.Batches.{HeadValue, RefusesHead, TakesHead, IsBatch, BeginsWrong, IsServedBatch, AnswersBatch, IsAnswered}
 
-same_refusal : (r q : Refusal) → r.code ≡ q.code → r.offset ≡ q.offset → r ≡ q
-same_refusal r q c o =
-    ap (λ n. let x : Refusal = record { code = n; offset = r.offset } in x) c ∙ ap (λ n. let x : Refusal = record { code = q.code; offset = n } in x) o
-
 -- a text is refused in one way
 one_refused : (text : List ℕ) (purpose : Purpose) (r q : Refusal) → IsRefused text purpose r → IsRefused text purpose q → r ≡ q
 unfolding meaning_definitions
-one_refused text purpose r q (inl h) (inl k) = same_refusal r q (h.code ∙ sym k.code) (h.offset ∙ sym k.offset)
+one_refused text purpose r q (inl h) (inl k) = same_parts r q (h.code ∙ sym k.code) (h.offset ∙ sym k.offset)
 one_refused text purpose r q (inl h) (inr (short, k)) = absurd (omega (arith, h.long, short))
 one_refused text purpose r q (inr (short, h)) (inl k) = absurd (omega (arith, k.long, short))
 one_refused text purpose r q (inr (s1, inl h)) (inr (s2, inl k)) = one_unread text r q h k

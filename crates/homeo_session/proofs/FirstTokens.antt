@@ -1,23 +1,23 @@
 -- The first tokens of batches.
-use Rattle.std.proofs.Common.{◌≡◌, ◌∙◌, ℕ, suc, ◌+◌, ◌-◌, ◌≤◌, Bool, true, false, ◌&&◌, List, [], ◌∷◌, ◌++◌, length, drop, refl, sym, ap, subst, arith, inl, inr, true≢false}
+use Rattle.std.proofs.Common.{◌≡◌, ◌∙◌, ℕ, suc, ◌+◌, ◌-◌, ◌≤◌, Bool, true, false, List, [], ◌∷◌, ◌++◌, length, drop, refl, sym, ap, subst, arith, inl, inr, true≢false}
 use Rattle.std.proofs.lemmas.List.{append-nil, map-append, length-map}
 use Rattle.std.specs.Prelude.{Option, Some, None, Result, Ok, Err, if◌then◌else◌, map}
-use Rattle.std.specs.List.{list_all, prefix_len}
+use Rattle.std.specs.List.{prefix_len}
 use Rattle.std.specs.Result.{result_map_both}
 use Rattle.homeo_syntax.specs.declared.token.Mark.{Mark}
 use Rattle.homeo_syntax.specs.declared.token.Mark.TheVariants as mark
 use Rattle.homeo_syntax.specs.Lexemes.{Lexeme, Name, Number, Fixed, is_space, lexeme_of}
-use Rattle.homeo_syntax.specs.Tokens.{Scanned, scanned_from, scanned_in, unversioned, version_of, in_version, found, in_front, is_good, IsClean, names_of, token_in, tokens_in}
+use Rattle.homeo_syntax.specs.Tokens.{Scanned, scanned_from, scanned_in, unversioned, version_of, in_version, found, in_front, names_of, token_in, tokens_in}
 use Rattle.homeo_syntax.specs.Reads.{Reads}
 use Rattle.homeo_syntax.specs.Rules.{IsWorkload}
 use Rattle.homeo_syntax.specs.Source as s
 use Rattle.homeo_reader.specs.Cut.{IsCutShort}
 use Rattle.homeo_reader.specs.Lines.{newline, is_end, whole_lines}
 use Rattle.homeo_reader.specs.Stands.{EndsLexeme}
-use Rattle.homeo_reader.proofs.Cut.{cut_texts}
+use Rattle.homeo_reader.proofs.Cut.{cut_texts, clean_beginning}
 use Rattle.homeo_reader.proofs.Declared.{three_tokens}
 use Rattle.homeo_reader.proofs.Scans.{and_then, scan_line, scan_lines}
-use Rattle.homeo_reader.proofs.Texts.{versioned, version_same, end_scanned}
+use Rattle.homeo_reader.proofs.Texts.{versioned, version_same, end_scanned, nothing_more}
 use Rattle.homeo_reader.proofs.Unread.{unread}
 use Rattle.homeo_session.specs.inner.Tokens.{ends_mark, ends_lexeme}
 
@@ -114,18 +114,6 @@ from_zero :
 from_zero lines frame =
     let same : 0 + length (whole_lines lines) ≡ length (whole_lines lines) = omega arith in
     scan_lines lines frame 0 ∙ ap (λ n. and_then (unversioned (whole_lines lines)) (scanned_from 0 n frame)) same
-
-clean_beginning : (cut rest : List ℕ) → IsClean (cut ++ rest) → IsClean cut
-clean_beginning [] rest h = refl
-clean_beginning (b ∷ cut) rest h = go (is_good b) (list_all is_good (cut ++ rest)) h (clean_beginning cut rest)
-  where
-    go : (good all : Bool) → (good && all) ≡ true → (all ≡ true → list_all is_good cut ≡ true) → (good && list_all is_good cut) ≡ true
-    go true all h k = k h
-    go false all h k = cc
-
-nothing_more : (ts : List Scanned) (at : ℕ) → and_then (Ok ts) (scanned_from 0 at []) ≡ Ok ts
-unfolding scanned_from
-nothing_more ts at = ap Ok (append-nil ts)
 
 line_scanned : (line : List ℕ) (at : ℕ) → is_end line ≡ true → (t : Scanned) × (scanned_from 0 at (line ++ newline ∷ []) ≡ Ok (t ∷ []))
 line_scanned line at ends =

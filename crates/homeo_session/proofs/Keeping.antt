@@ -133,9 +133,6 @@ pub head_refused : (frame : List ℕ) (told r : Refusal) → IsRefused frame Run
 unfolding definitions
 head_refused frame told r refused same = subst (IsRefused frame Run) same refused
 
-pub same_some : (r q : Refusal) → Some r ≡ Some q → r ≡ q
-same_some r q e = cc
-
 -- a head that is taken has no answer
 pub taken_answer : (head : Option HeadValue) (taken : HeadValue) (frame : List ℕ) → head ≡ None → TakesHead frame taken → IsAnswered head frame [] (Some taken)
 taken_answer head taken frame none takes = subst (λ (h : Option HeadValue). IsAnswered h frame [] (Some taken)) (sym none) (refl, taken, takes, refl)
