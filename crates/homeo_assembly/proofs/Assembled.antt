@@ -6,6 +6,8 @@ use Rattle.std.proofs.Common.{◌≡◌, ℕ, zero, suc, ◌<◌, ◌≤◌, Lis
 use Rattle.std.specs.Prelude.{All, slice_get, slice_index_or}
 use Rattle.std.specs.List.{range_with_len}
 use Rattle.std.proofs.lemmas.List.{length-map}
+use Rattle.std.proofs.lemmas.Option.{slice_get_within}
+use Rattle.homeo_lemmas.proofs.Places.{one_placed, get_map}
 use Rattle.homeo_syntax.specs.Source as s
 use Rattle.homeo_meaning.specs.Acceptance.{IsAccepted}
 use Rattle.homeo_meaning.specs.Initial.{initial}
@@ -13,7 +15,7 @@ use Rattle.homeo_history.specs.Answers.{Answer, answers_of, answers_to}
 use Rattle.homeo_history.specs.History.{Round}
 use Rattle.homeo_history.specs.Legal.{IsClientAt, call_count, numbers_of, calls_of, IsInOrder}
 use Rattle.homeo_history.proofs.Exists.{Exists, has_site, all_exist, none_to_none, count_bound}
-use Rattle.homeo_history.proofs.Lists.{get_lt, get_some, get_same, get_index, get_map}
+use Rattle.homeo_history.proofs.Lists.{get_some, get_index}
 use Rattle.homeo_history.proofs.Stand.{each_is}
 use Rattle.homeo_core.specs.Joined.{BookState, rounds_of, history_of}
 use Rattle.homeo_core.proofs.Joining.{joining}
@@ -55,13 +57,13 @@ module _ (w : s.Workload) (b : BookState) (l : BookLists) (cells : List Cell) (a
 
   log_is : (client : ℕ) (log : List Answer) → slice_get asked client ≡ Some log → IsWhole client rounds log
   log_is client log e =
-      let home = has_site w client (subst (λ n. client < n) agreed.clients (get_lt asked client log e)) in
+      let home = has_site w client (subst (λ n. client < n) agreed.clients (slice_get_within asked client log e)) in
       let i : ℕ = home.0 in
       let own : IsClientAt w i client = home.1 in
       let cell = get_some cells i (subst (λ n. i < n) (sym met.count) (client_below w i client accepted own)) in
       let c : Cell = cell.0 in
       let same : log ≡ c.lists.done client =
-      get_same asked client log (c.lists.done client) e (agreed.done client i c own cell.1) in
+      one_placed asked client log (c.lists.done client) e (agreed.done client i c own cell.1) in
       record {
         all = same ∙ met_lists.done_is w b l cells book sites met accepted client i c own cell.1;
         numbered = subst AreNumbered (sym same) (met_lists.done_numbered w b l cells book sites met client i c own cell.1);

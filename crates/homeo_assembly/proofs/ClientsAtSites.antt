@@ -1,48 +1,27 @@
 -- Each client of an accepted workload is at one of its sites.
-use Rattle.homeo_syntax.specs.Key.{definitions as syntax_definitions}
 use Rattle.homeo_meaning.specs.Key.{definitions as meaning_definitions}
 use Rattle.homeo_plan.specs.Key.{definitions as plan_definitions}
 use Rattle.homeo_history.specs.Key.{definitions as history_definitions}
-use Rattle.std.proofs.Common.{◌≡◌, ℕ, zero, suc, ◌<◌, ℤ, pos, negsuc, ◌≤ℤ◌, ◌<ℤ◌, int_le, Bool, true, false, List, [], ◌∷◌, Option, Some, None, All, refl, subst, arith}
+use Rattle.std.proofs.Common.{◌≡◌, ℕ, ◌<◌, int_le, false, List, [], Option, Some, None, All, refl, subst}
 use Rattle.std.specs.Prelude.{slice_get}
 use Rattle.std.specs.List.{flat_map}
 use Rattle.std.specs.Option.{option_map}
-use Rattle.std.proofs.lemmas.Int.{ints}
+use Rattle.homeo_lemmas.proofs.Places.{All-get}
 use Rattle.homeo_syntax.specs.Source as s
-use Rattle.homeo_syntax.specs.WellFormed as formed
 use Rattle.homeo_meaning.specs.Acceptance.{IsAccepted}
 use Rattle.homeo_meaning.specs.CallRules.{call_faults, client_faults}
 use Rattle.homeo_meaning.specs.GlobalNames.{scope_of}
-use Rattle.homeo_meaning.specs.ListRules.{when}
 use Rattle.homeo_meaning.specs.NumberRules.{site_faults}
 use Rattle.homeo_meaning.specs.Schema.{nat_of}
 use Rattle.homeo_meaning.specs.declared.call.Purpose.TheVariants.{Run}
 use Rattle.homeo_meaning.specs.declared.rules.Fault.{Fault}
 use Rattle.homeo_meaning.proofs.FaultParts.{none_second, parts, declared_parts}
 use Rattle.homeo_meaning.proofs.SoundRules.{each-none}
+use Rattle.homeo_meaning.proofs.SoundRelations.{when_none}
 use Rattle.homeo_plan.specs.Planned.{sites_of}
+use Rattle.homeo_plan.proofs.PlannedCalls.{less_nat}
 use Rattle.homeo_history.specs.Legal.{IsClientAt}
-use Rattle.homeo_history.proofs.Lists.{All-get}
-
-none_when : (b : Bool) (f : Fault) → when b (f ∷ []) ≡ [] → b ≡ false
-unfolding meaning_definitions
-none_when true f e = absurd (cc)
-none_when false f e = refl
-
-nat_lt : (site sites : ℤ) → pos 0 ≤ℤ site → int_le sites site ≡ false → nat_of site < nat_of sites
-unfolding meaning_definitions
-nat_lt (pos m) (pos n) h e = let lt : pos m <ℤ pos n = omega (arith, ints, e) in omega (arith, ints, lt)
-nat_lt (pos m) (negsuc n) h e = absurd (omega (arith, ints, e))
-nat_lt (negsuc m) sites h e = absurd (omega (arith, ints, h))
-
-not_negative :
-    (cs : List s.Client) (i : ℕ) (c : s.Client) → formed.Each (λ (c : s.Client). pos 0 ≤ℤ c.site.value) cs →
-    slice_get cs i ≡ Some c → pos 0 ≤ℤ c.site.value
-unfolding syntax_definitions
-not_negative [] i c all e = absurd (cc)
-not_negative (x ∷ cs) zero c all e =
-    let same : x ≡ c = cc in subst (λ (y : s.Client). pos 0 ≤ℤ y.site.value) same all.0
-not_negative (x ∷ cs) (suc i) c all e = not_negative cs i c all.1 e
+use Rattle.homeo_core.proofs.SitesOfClients.{not_negative}
 
 abbrev IsBelow : s.Workload → s.Client → Type 0
 IsBelow w c = int_le w.sites.value c.site.value ≡ false
@@ -52,7 +31,7 @@ unfolding meaning_definitions
 below w c none =
     let calls : List Fault =
     flat_map (λ (call : s.Call). call_faults w.transactions ((scope_of w).item call.name.name) call) c.calls in
-    none_when (int_le w.sites.value c.site.value) _ (none_second calls (site_faults w.sites c.site) none)
+    when_none (int_le w.sites.value c.site.value) _ (none_second calls (site_faults w.sites c.site) none)
 
 site_lt :
     (w : s.Workload) (i : ℕ) (c : s.Client) → IsAccepted w → slice_get w.clients i ≡ Some c →
@@ -62,7 +41,7 @@ site_lt w i c accepted e =
     let faults : s.Client → List Fault = client_faults w.sites (scope_of w) w.transactions in
     let none : flat_map faults w.clients ≡ [] = (declared_parts w (parts Run w accepted.rules).text.declared).clients in
     let each : All (IsBelow w) w.clients = each-none faults (IsBelow w) (below w) w.clients none in
-    nat_lt c.site.value w.sites.value (not_negative w.clients i c accepted.well_formed.sites e)
+    less_nat c.site.value w.sites.value (not_negative w.clients i c accepted.well_formed.sites e)
     (All-get (IsBelow w) w.clients i c each e)
 
 pub client_below : (w : s.Workload) (site client : ℕ) → IsAccepted w → IsClientAt w site client → site < sites_of w

@@ -8,6 +8,8 @@ use Rattle.std.proofs.Common.{◌≡◌, ℕ, ◌<◌, List, [], ◌∷◌, ◌+
 use Rattle.std.specs.Prelude.{IsSome, slice_get}
 use Rattle.std.proofs.lemmas.List.{append-nil, map-append}
 use Rattle.std.proofs.lemmas.List.Elements.{All-nil}
+use Rattle.std.proofs.lemmas.Option.{slice_get_within}
+use Rattle.homeo_lemmas.proofs.Places.{get_map}
 use Rattle.homeo_syntax.specs.Source as s
 use Rattle.homeo_meaning.specs.declared.call.CallId.{CallId}
 use Rattle.homeo_meaning.specs.Acceptance.{IsAccepted}
@@ -20,7 +22,7 @@ use Rattle.homeo_history.specs.History.{Round}
 use Rattle.homeo_history.specs.Legal.{IsClientAt, IsAtSites}
 use Rattle.homeo_history.specs.Replayed.{IsReplayed}
 use Rattle.homeo_history.proofs.Exists.{has_site}
-use Rattle.homeo_history.proofs.Lists.{get_lt, get_some, get_map, all_from_get}
+use Rattle.homeo_history.proofs.Lists.{get_some, all_from_get}
 use Rattle.homeo_site.specs.SiteState.{SiteState, renewed}
 use Rattle.homeo_core.specs.Events.{BreaksCall, closing_of, next_base, after_closing, IsAfter}
 use Rattle.homeo_core.specs.Joined.{BookState, rounds_of}
@@ -106,7 +108,7 @@ module _ (w : s.Workload) (b : BookState) (l l' : BookLists) (cells cells' : Lis
 
   -- ---- the sites
   before : (i : ℕ) (c' : Cell) → slice_get cells' i ≡ Some c' → (c : Cell) × (slice_get cells i ≡ Some c)
-  before i c' e = get_some cells i (subst (λ n. i < n) new.count (get_lt cells' i c' e))
+  before i c' e = get_some cells i (subst (λ n. i < n) new.count (slice_get_within cells' i c' e))
 
   site_after : (i : ℕ) (c' : Cell) → slice_get cells' i ≡ Some c' → SiteFacts w c'.site c'.lists
   unfolding definitions core_definitions

@@ -5,6 +5,7 @@ use Rattle.std.proofs.Common.{◌≡◌, ℕ, suc, ◌+◌, ◌≤◌, List, [],
 use Rattle.std.specs.Prelude.{All, slice_get}
 use Rattle.std.proofs.lemmas.List.{length-map, length_push}
 use Rattle.std.proofs.lemmas.List.Elements.{All-map, All-push, All-weaker}
+use Rattle.homeo_lemmas.proofs.Places.{get_map, one_placed, All-get}
 use Rattle.homeo_syntax.specs.Source as s
 use Rattle.homeo_meaning.specs.Acceptance.{IsAccepted}
 use Rattle.homeo_meaning.specs.Initial.{initial}
@@ -12,7 +13,7 @@ use Rattle.homeo_history.specs.Answers.{Answer, local_answer, answers_of, answer
 use Rattle.homeo_history.specs.History.{Round}
 use Rattle.homeo_history.specs.Legal.{IsClientAt, IsAtSites, call_count}
 use Rattle.homeo_history.proofs.Exists.{client_lt, all_exist, count_bound}
-use Rattle.homeo_history.proofs.Lists.{get_map, get_map_back, get_end, get_same, All-get}
+use Rattle.homeo_history.proofs.Lists.{get_map_back, get_end}
 use Rattle.homeo_site.specs.SiteState.{SiteState, SiteHolds}
 use Rattle.homeo_core.specs.Joined.{BookState, IsInRound, AreJoined, open_round, rounds_of}
 use Rattle.homeo_core.proofs.Joining.{with_open}
@@ -51,7 +52,7 @@ module _ (w : s.Workload) (b : BookState) (l : BookLists) (cells : List Cell) (b
       record {
         numbered = met.numbers i c e;
         round = place ∙ length-map b.closed (λ (r : Round). r.base);
-        base = get_same bases (length closed) c.site.base b.base last (get_end closed b.base);
+        base = one_placed bases (length closed) c.site.base b.base last (get_end closed b.base);
       }
 
   each_in_round : (i : ℕ) (x : SiteState) → slice_get (states_of cells) i ≡ Some x → IsInRound b i x

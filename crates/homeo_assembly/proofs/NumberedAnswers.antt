@@ -4,11 +4,11 @@ use Rattle.homeo_assembly.specs.Key.{definitions}
 use Rattle.std.proofs.Common.{◌≡◌, ℕ, suc, ◌+◌, List, [], ◌∷◌, ◌++◌, map, length, Bool, true, false, cond, eqb, refl, sym, ap, subst, ◌∙◌, arith}
 use Rattle.std.specs.List.{range_with_len}
 use Rattle.std.proofs.lemmas.List.{append-nil, map-append, length_push}
+use Rattle.std.proofs.lemmas.Bool.{eqb-true}
+use Rattle.homeo_lemmas.proofs.Lists.{range_more}
 use Rattle.homeo_syntax.specs.Source as s
 use Rattle.homeo_history.specs.Answers.{Answer, answers_to}
 use Rattle.homeo_history.specs.Legal.{IsClientAt}
-use Rattle.homeo_history.proofs.ClientAnswers.{same_client}
-use Rattle.homeo_history.proofs.Lists.{range_more}
 use Rattle.homeo_assembly.specs.Events.{IsNext}
 
 abbrev pub AreNumbered : List Answer → Type 0
@@ -39,5 +39,5 @@ numbered_more w site client a done new own next more e =
   where
     seq : eqb a.client client ≡ true → a.seq ≡ suc (length (done client))
     seq t =
-        let same : a.client ≡ client = same_client a.client client t in
+        let same : a.client ≡ client = eqb-true a.client client t in
         next (subst (IsClientAt w site) (sym same) own) ∙ ap (λ c. suc (length (done c))) same
