@@ -7,6 +7,7 @@ use Rattle.std.specs.Prelude.{slice_get, All, Contains}
 use Rattle.std.proofs.lemmas.List.{take_at, take-append-le}
 use Rattle.std.proofs.lemmas.List.Elements.{All-push}
 use mathlib.Core.Logic.{⊎_elim}
+use Rattle.homeo_lemmas.proofs.Places.{one_placed, get_left}
 use Rattle.homeo_syntax.specs.Source as s
 use Rattle.homeo_meaning.specs.Acceptance.{IsAccepted}
 use Rattle.homeo_meaning.specs.Initial.{initial}
@@ -14,7 +15,7 @@ use Rattle.homeo_plan.specs.Planned.{sites_of}
 use Rattle.homeo_history.specs.History.{Round}
 use Rattle.homeo_history.specs.Legal.{IsFramed, IsAtSites, RunsTo, IsSerialFrom}
 use Rattle.homeo_history.specs.Replayed.{IsReplayed}
-use Rattle.homeo_history.proofs.Lists.{get_map_back, get_same, get_left, get_end}
+use Rattle.homeo_history.proofs.Lists.{get_map_back, get_end}
 use Rattle.homeo_history.proofs.Rounds.{first_is, only_last, serial_end}
 use Rattle.homeo_site.specs.SiteState.{SiteState}
 use Rattle.homeo_core.specs.Joined.{BookState, AreJoined, open_round, gathered, rounds_of}
@@ -107,7 +108,7 @@ module _ (w : s.Workload) (x : Joint) (joined : AreJoined w (initial w) x.book x
     pub base_there : (q : Round) → slice_get x.book.closed j.site.round ≡ Some q → j.site.base ≡ q.base
     unfolding definitions
     base_there q e =
-        ap (λ (l : Left). l.base) placed.is ∙ ap (λ (r : Round). r.base) (get_same x.book.closed j.site.round placed.item q (subst (λ n. slice_get x.book.closed n ≡ Some placed.item) long placed.here) e)
+        ap (λ (l : Left). l.base) placed.is ∙ ap (λ (r : Round). r.base) (one_placed x.book.closed j.site.round placed.item q (subst (λ n. slice_get x.book.closed n ≡ Some placed.item) long placed.here) e)
 
     behind_is : HasRun rounds i j
     unfolding definitions core_definitions
@@ -173,7 +174,7 @@ module _ (w : s.Workload) (x : World) (accepted : IsAccepted w) (h : IsHeld w x)
 
     one : a.round ≡ b.round
     one =
-        get_same (rounds_of y.book y.sites) l.site.round a.round b.round (subst (λ n. slice_get (rounds_of y.book y.sites) n ≡ Some a.round) same a.here) b.here
+        one_placed (rounds_of y.book y.sites) l.site.round a.round b.round (subst (λ n. slice_get (rounds_of y.book y.sites) n ≡ Some a.round) same a.here) b.here
 
     base_of_left : (n : ℕ) (q : Round) → (left_of n q).base ≡ q.base
     unfolding definitions

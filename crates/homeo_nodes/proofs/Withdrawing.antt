@@ -3,18 +3,19 @@ use Rattle.homeo_nodes.specs.Key.{definitions}
 use Rattle.std.proofs.Common.{inl, inr, ◌≡◌, ℕ, zero, suc, ◌+◌, ◌-◌, ◌<◌, List, [], ◌∷◌, ◌++◌, length, take, drop, cond, true, Some, refl, sym, ap, subst, ◌∙◌, append_assoc, length-append, take-append-drop, arith, slice_set}
 use Rattle.std.specs.Prelude.{slice_get, ◌==◌, ◌⊎◌}
 use Rattle.std.proofs.lemmas.List.{append-nil, length-take, take_at}
+use Rattle.std.proofs.lemmas.Bool.{cases_eq, eq-eqb, cond-true}
 use mathlib.Core.Logic.{⊎_elim}
+use Rattle.homeo_lemmas.proofs.Places.{one_placed}
 use Rattle.homeo_syntax.specs.Source as s
 use Rattle.homeo_meaning.specs.declared.call.CallId.{CallId}
 use Rattle.homeo_meaning.specs.Acceptance.{IsAccepted}
-use Rattle.homeo_history.proofs.Lists.{get_same, get_set_same, set_cases, length_set}
+use Rattle.homeo_history.proofs.Lists.{get_set_same, set_cases, length_set}
 use Rattle.homeo_nodes.specs.declared.breach.Breach.{Breach}
 use Rattle.homeo_nodes.specs.declared.breach.Mode.TheVariants.{Waiting, Stopped}
 use Rattle.homeo_nodes.specs.Laws.{calls_of}
 use Rattle.homeo_nodes.specs.Nodes.{Said, said_by, Packet, Stop, State, Node, is_stopped, settled, stopped, withdrawing}
 use Rattle.homeo_nodes.proofs.Carrying.{AreAt}
 use Rattle.homeo_nodes.proofs.Courses.{IsThere, IsNear, course_quiet}
-use Rattle.homeo_nodes.proofs.Places.{same_or_not, test_true, cond_true}
 use Rattle.homeo_nodes.proofs.Reacting.{one_state, quiet_settled}
 use Rattle.homeo_nodes.proofs.Sending.{Sent, sent_left, sent_right, sent_one}
 use Rattle.homeo_nodes.proofs.Settling.{Holds, behind_stopped}
@@ -73,11 +74,11 @@ module _ (w : s.Workload) (ns : List Node) (ps : List Packet) (accepted : IsAcce
 
   first_then : (a : Breach) → Wants w a n → ((rest : List CallId) × (n'.queue ≡ a.call ∷ rest)) ⊎ IsOverruled a n'
   unfolding definitions
-  first_then a h = ⊎_elim own (λ other. inr (record { by = b; mode = refl; other = λ e. other (h.home ∙ sym e) })) (same_or_not n.journal.site.number b.site)
+  first_then a h = ⊎_elim own (λ other. inr (record { by = b; mode = refl; other = λ e. other (h.home ∙ sym e) })) (cases_eq n.journal.site.number b.site)
     where
       own : n.journal.site.number ≡ b.site → ((rest : List CallId) × (n'.queue ≡ a.call ∷ rest)) ⊎ IsOverruled a n'
       own e =
-          ⊎_elim (λ f. inl ([], queue_is ∙ first_of n.queue f.0 a.call kept f.1 (cond_true (n.journal.site.number == b.site) 1 0 (test_true n.journal.site.number b.site e)))) (λ o. absurd (free (ap is_stopped o.mode))) h.first
+          ⊎_elim (λ f. inl ([], queue_is ∙ first_of n.queue f.0 a.call kept f.1 (cond-true (n.journal.site.number == b.site) 1 0 (eq-eqb n.journal.site.number b.site e)))) (λ o. absurd (free (ap is_stopped o.mode))) h.first
 
   goes : GoesOn w n n'
   unfolding definitions
@@ -113,7 +114,7 @@ module _ (w : s.Workload) (ns : List Node) (ps : List Packet) (accepted : IsAcce
   no_state : (e : Said) → Sent ps (State now n.journal.site.number e) → ⊥
   no_state e o =
       let since : Since ns n.journal.site.number now (HasStopped e) = (talk.packets (State now n.journal.site.number e) o).1 in
-      let same : since.node ≡ n = get_same ns i since.node n (subst (λ k. slice_get ns k ≡ Some since.node) hears.numbered since.here) here in
+      let same : since.node ≡ n = one_placed ns i since.node n (subst (λ k. slice_get ns k ≡ Some since.node) hears.numbered since.here) here in
       let h = subst (λ (y : Node). (now < y.journal.site.round) ⊎ ((y.journal.site.round ≡ now) × HasStopped e y)) same since.since in
       ⊎_elim (λ lt. absurd (omega (arith, lt))) (λ q. free q.1.stopped) h
 
