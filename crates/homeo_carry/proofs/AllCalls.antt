@@ -2,11 +2,11 @@
 use Rattle.homeo_nodes.specs.Key.{definitions}
 use Rattle.std.proofs.Common.{◌≡◌, ℕ, suc, ◌+◌, ◌<◌, ◌≤◌, List, [], ◌∷◌, ◌++◌, map, length, take, get_or, Option, Some, None, refl, sym, ap, subst, ◌∙◌, append_assoc, arith}
 use Rattle.std.proofs.lemmas.List.{append-nil, take-map}
+use Rattle.homeo_lemmas.proofs.Lists.{map_take_more}
+use Rattle.homeo_lemmas.proofs.Places.{get_map, get_read}
 use Rattle.homeo_syntax.specs.Source as source
-use Rattle.homeo_meaning.proofs.TakenItems.{take_next}
 use Rattle.homeo_plan.specs.declared.treaty.Broken.{Broken}
 use Rattle.homeo_history.specs.Answers.{Answer}
-use Rattle.homeo_history.proofs.Lists.{get_map}
 use Rattle.homeo_site.specs.SiteState.{step_finding}
 use Rattle.homeo_nodes.specs.Brief.{Brief, Answered, site_at, briefly_by, briefly, briefly_all}
 use Rattle.homeo_nodes.specs.Making as n
@@ -15,7 +15,6 @@ use Rattle.homeo_carry.specs.declared.calls.Called.{Called}
 use Rattle.homeo_carry.specs.declared.carrying.Rounds.{Rounds}
 use Rattle.homeo_carry.specs.inner.Answering.{AreMore}
 use Rattle.homeo_carry.specs.inner.Carrying.{plain_called, brief_of, IsNext, CanMake, CanMakeAll}
-use Rattle.homeo_carry.proofs.Outcomes.{get_or_here}
 
 -- ---- one more call
 abbrev then_one : source.Workload → ℕ → n.Called → Answered → Answered
@@ -46,7 +45,7 @@ next_then w before a c x y all one =
 
 pub all_next : (w : source.Workload) (before : Answers) (b : Brief) (calls : List Called) (i : ℕ) (c : Called) (x y : Rounds) → i < length calls → c ≡ get_or calls i c → IsNext before (briefly_all w before.own (map plain_called (take i calls)) b) x → IsNext x.answers (briefly w x.answers.own (plain_called c) (brief_of x)) y → IsNext before (briefly_all w before.own (map plain_called (take (i + 1) calls)) b) y
 all_next w before b calls i c x y lt is all one =
-    subst (λ a. IsNext before a y) (sym (ap (λ cs. briefly_all w before.own cs b) (take_next plain_called calls i c lt is) ∙ all_push w before.own (map plain_called (take i calls)) (plain_called c) b)) (next_then w before (briefly_all w before.own (map plain_called (take i calls)) b) (plain_called c) x y all one)
+    subst (λ a. IsNext before a y) (sym (ap (λ cs. briefly_all w before.own cs b) (map_take_more plain_called calls i c lt is) ∙ all_push w before.own (map plain_called (take i calls)) (plain_called c) b)) (next_then w before (briefly_all w before.own (map plain_called (take i calls)) b) (plain_called c) x y all one)
 
 pub none_next : (w : source.Workload) (x : Rounds) → IsNext x.answers (briefly_all w x.answers.own [] (brief_of x)) x
 unfolding definitions
@@ -55,7 +54,7 @@ none_next w x = record { brief = refl; answers = record { own = refl; given = sy
 -- ---- calls that can be made
 pub can_make : (w : source.Workload) (before : Answers) (b : Brief) (calls : List Called) (i : ℕ) (c : Called) (x : Rounds) → i < length calls → c ≡ get_or calls i c → IsNext before (briefly_all w before.own (map plain_called (take i calls)) b) x → CanMakeAll w before.own (map plain_called calls) b → CanMake w (brief_of x) (plain_called c)
 can_make w before b calls i c x lt is all can =
-    subst (λ y. CanMake w y (plain_called c)) (ap (λ cs. (briefly_all w before.own cs b).brief) (take-map plain_called i calls) ∙ sym all.brief) (can i (plain_called c) (get_map plain_called calls i c (get_or_here calls i c lt is)))
+    subst (λ y. CanMake w y (plain_called c)) (ap (λ cs. (briefly_all w before.own cs b).brief) (take-map plain_called i calls) ∙ sym all.brief) (can i (plain_called c) (get_map plain_called calls i c (get_read calls i c lt is)))
 
 -- ---- how far they lead
 round_by : (w : source.Workload) (own : ℕ) (b : Brief) (c : n.Called) (o : Option Broken) → (briefly_by w own b c o).brief.round ≤ suc b.round

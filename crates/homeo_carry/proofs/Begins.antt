@@ -4,17 +4,19 @@ use Rattle.homeo_nodes.specs.Key.{definitions}
 use Rattle.std.proofs.Common.{inl, inr, ◌≡◌, ℕ, zero, suc, List, [], ◌∷◌, ◌++◌, length, replicate, ℤ, Some, refl, sym, ap, subst, ◌∙◌, arith, slice_index_or}
 use Rattle.std.specs.Prelude.{slice_get, ◌⊎◌}
 use Rattle.std.proofs.lemmas.List.{length-map}
+use Rattle.std.proofs.lemmas.Option.{slice_get_within}
 use mathlib.Core.Logic.{⊎_elim}
+use Rattle.homeo_lemmas.proofs.Places.{get_map, one_placed, same_list, get_replicate}
 use Rattle.homeo_syntax.specs.SourceView.{plain_workload}
 use Rattle.homeo_syntax.specs.declared.workload.Workload.{Workload}
 use Rattle.homeo_meaning.specs.Bounds.{IsWithin}
 use Rattle.homeo_meaning.specs.Schema.{schema_of}
 use Rattle.homeo_plan.specs.Planned.{sites_of}
-use Rattle.homeo_history.proofs.Lists.{get_map, get_index, get_some, get_lt, get_same}
+use Rattle.homeo_history.proofs.Lists.{get_index, get_some}
 use Rattle.homeo_site.specs.BareView.{BareValue}
 use Rattle.homeo_site.specs.SiteState.{begun}
 use Rattle.homeo_nodes.specs.Brief.{zeros, brief_at, site_at}
-use Rattle.homeo_nodes.proofs.Places.{same_list, get_replicate, length_replicate}
+use Rattle.homeo_nodes.proofs.Places.{length_replicate}
 use Rattle.homeo_carry.specs.declared.carrying.Rounds.{Rounds}
 use Rattle.homeo_carry.specs.inner.Carrying.{deltas_in, brief_of, AreBegun, IsOf}
 
@@ -43,9 +45,9 @@ begun_is i round base ds e = ap (λ d. record { number = i; round = round; base 
 
 zero_deltas : (work : Workload) (round : ℕ) (base : List ℤ) (sites : List BareValue) (count : ℕ) → AreBegun work round base sites → length sites ≡ count → deltas_in sites ≡ replicate count (zeros base)
 zero_deltas work round base sites count all long =
-    same_list (deltas_in sites) (replicate count (zeros base)) (length-map sites delta_of ∙ long ∙ sym (length_replicate count (zeros base))) (λ i d z e f. let lt = get_lt (deltas_in sites) i d e in
+    same_list (deltas_in sites) (replicate count (zeros base)) (length-map sites delta_of ∙ long ∙ sym (length_replicate count (zeros base))) (λ i d z e f. let lt = slice_get_within (deltas_in sites) i d e in
     let s = get_some sites i (let g = length-map sites delta_of in omega (arith, lt, g)) in
-    get_same (deltas_in sites) i d s.0.state.deltas e (get_map delta_of sites i s.0 s.1) ∙ ap delta_of (all i s.0 s.1) ∙ begun_deltas i round base ∙ get_replicate count i (zeros base) z f)
+    one_placed (deltas_in sites) i d s.0.state.deltas e (get_map delta_of sites i s.0 s.1) ∙ ap delta_of (all i s.0 s.1) ∙ begun_deltas i round base ∙ get_replicate count i (zeros base) z f)
 
 module _ (work : Workload) (x : Rounds) (within : IsWithin (schema_of (plain_workload work)) x.base.items) (count : length x.sites.items ≡ sites_of (plain_workload work)) (all : AreBegun work x.round x.base.items x.sites.items) where
   pub brief_begins : brief_of x ≡ brief_at (plain_workload work) x.round x.base.items

@@ -1,18 +1,17 @@
 -- The calls that states carry, site after site.
 use Rattle.homeo_plan.specs.Key.{definitions as plan_definitions}
 use Rattle.homeo_nodes.specs.Key.{definitions}
-use Rattle.std.proofs.Common.{◌≡◌, ℕ, zero, suc, ◌+◌, ◌<◌, ◌≤◌, ◌%◌, List, [], ◌∷◌, ◌++◌, map, length, take, drop, get_or, refl, sym, ap, ◌∙◌, append_assoc, arith}
+use Rattle.std.proofs.Common.{◌≡◌, ℕ, zero, suc, ◌+◌, ◌<◌, ◌≤◌, ◌%◌, List, [], ◌∷◌, ◌++◌, map, length, take, drop, get_or, sym, ap, ◌∙◌, append_assoc, arith}
 use Rattle.std.proofs.lemmas.List.{append-nil, map-append, length-map}
+use Rattle.homeo_lemmas.proofs.Lists.{drop_past, map_take_more, map_take}
 use Rattle.homeo_syntax.specs.Source as source
 use Rattle.homeo_build.proofs.FewSites.{sites_few}
 use Rattle.homeo_meaning.specs.Acceptance.{IsAccepted}
 use Rattle.homeo_meaning.specs.declared.call.CallId.{CallId}
-use Rattle.homeo_meaning.proofs.TakenItems.{take_next}
 use Rattle.homeo_plan.specs.Planned.{sites_of}
 use Rattle.homeo_nodes.specs.declared.breach.Breach.{Breach}
 use Rattle.homeo_nodes.specs.Making as n
 use Rattle.homeo_nodes.specs.Nodes.{called, calls_at, calls_from, carried}
-use Rattle.homeo_nodes.proofs.Closings.{map_take}
 use Rattle.homeo_carry.specs.CarryView.{plain_said}
 use Rattle.homeo_carry.specs.declared.calls.Called.{Called}
 use Rattle.homeo_carry.specs.declared.said.Said.{Said}
@@ -25,7 +24,7 @@ call_next site i call said before now next lt is push so =
     ∙ map-append plain_called now (record { site = site; call = call } ∷ [])
     ∙ ap (λ cs. cs ++ called site call ∷ []) so
     ∙ append_assoc (map plain_called before) (map (called site) (take i said)) (called site call ∷ [])
-    ∙ ap (λ cs. map plain_called before ++ cs) (sym (take_next (called site) said i call lt is))
+    ∙ ap (λ cs. map plain_called before ++ cs) (sym (map_take_more (called site) said i call lt is))
 
 -- ---- those of the sites from one on
 drop_here : (states : List Said) (site : ℕ) (s : Said) → site < length states → s ≡ get_or states site s → drop site (map plain_said states) ≡ plain_said s ∷ drop (suc site) (map plain_said states)
@@ -43,16 +42,10 @@ site_next u states site s now next all lt is push so =
     ∙ ap (λ ss. now ++ calls_from u site ss) (sym (drop_here states site s lt is))
     ∙ so
 
-drop_all : {X : Type 0} (xs : List X) (k : ℕ) → length xs ≤ k → drop k xs ≡ []
-drop_all [] zero le = refl
-drop_all [] (suc k) le = refl
-drop_all (x ∷ xs) zero le = absurd (omega (arith, le))
-drop_all (x ∷ xs) (suc k) le = drop_all xs k (omega (arith, le))
-
 pub sites_done : (u : Breach) (states : List Said) (site : ℕ) (now all : List n.Called) → length states ≤ site → now ++ calls_from u site (drop site (map plain_said states)) ≡ all → now ≡ all
 sites_done u states site now all le so =
     sym (append-nil now)
-    ∙ ap (λ ss. now ++ calls_from u site ss) (sym (drop_all (map plain_said states) site (let e = length-map states plain_said in omega (arith, e, le))))
+    ∙ ap (λ ss. now ++ calls_from u site ss) (sym (drop_past (map plain_said states) site (let e = length-map states plain_said in omega (arith, e, le))))
     ∙ so
 
 -- ---- those of all sites

@@ -3,6 +3,8 @@ use Rattle.homeo_nodes.specs.Key.{definitions}
 use Rattle.std.proofs.Common.{◌≡◌, ℕ, zero, suc, ◌+◌, ◌<◌, ◌^◌, List, [], ◌∷◌, ◌++◌, map, length, take, drop, ℤ, Some, sym, ap, subst, ◌∙◌, arith, slice_index_or}
 use Rattle.std.specs.Prelude.{slice_get}
 use Rattle.std.proofs.lemmas.List.{take-append-drop, length-map, length-take-le}
+use Rattle.std.proofs.lemmas.Simd.{map-map}
+use Rattle.std.proofs.lemmas.Option.{slice_get_within}
 use Rattle.homeo_syntax.specs.Listed.{Listed}
 use Rattle.homeo_syntax.specs.Source as source
 use Rattle.homeo_syntax.specs.SourceView.{plain_workload}
@@ -10,11 +12,9 @@ use Rattle.homeo_syntax.specs.declared.workload.Workload.{Workload}
 use Rattle.homeo_meaning.specs.Acceptance.{IsAccepted}
 use Rattle.homeo_meaning.specs.Bounds.{IsWithin}
 use Rattle.homeo_meaning.specs.Schema.{schema_of}
-use Rattle.homeo_meaning.proofs.TakenItems.{map_twice}
 use Rattle.homeo_plan.specs.Planned.{sites_of}
 use Rattle.homeo_history.specs.HistoryView.{plain_answer}
 use Rattle.homeo_history.specs.Legal.{IsCallAt}
-use Rattle.homeo_history.proofs.Lists.{get_lt}
 use Rattle.homeo_site.specs.BareView.{BareValue}
 use Rattle.homeo_site.specs.SiteState.{SiteState}
 use Rattle.homeo_nodes.specs.declared.breach.Breach.{Breach}
@@ -34,7 +34,7 @@ use Rattle.homeo_carry.proofs.AllCalls.{round_after}
 use Rattle.homeo_carry.proofs.SumLists.{sums_fit, whole_within}
 
 pub said_deltas : (states : List Said) → deltas_said states ≡ deltas_of (map plain_said states)
-said_deltas states = sym (map_twice (λ (said : n.Said). said.deltas) plain_said states)
+said_deltas states = sym (map-map (λ (said : n.Said). said.deltas) plain_said states)
 
 call_at : (w : source.Workload) (calls : List Called) (k : ℕ) (c : Called) → AreCalls w calls → slice_get calls k ≡ Some c → IsCallAt w c.site c.call
 call_at w [] k c are e = absurd (cc)
@@ -76,7 +76,7 @@ module _ (work : Workload) (u : Breach) (states : List Said) (x : SiteState) whe
       round_small : (k : ℕ) (c : Called) → slice_get (carried w u said) k ≡ Some c → (briefly_all w x.number (take k (carried w u said)) start).brief.round + 1 < 2 ^ 64
       unfolding definitions
       round_small k c e =
-          let below : k < length (carried w u said) = get_lt (carried w u said) k c e in
+          let below : k < length (carried w u said) = slice_get_within (carried w u said) k c e in
           let taken : length (take k (carried w u said)) ≡ k = length-take-le k (carried w u said) (omega (arith, below)) in
           let led = round_after w x.number (take k (carried w u said)) start in
           omega (arith, below, taken, led, few, early)

@@ -7,6 +7,7 @@ use Rattle.std.proofs.Common.{◌≡◌, ℕ, suc, ◌<◌, List, [], ◌∷◌,
 use Rattle.std.specs.Prelude.{slice_get}
 use Rattle.std.proofs.lemmas.List.{length-map}
 use mathlib.Core.Logic.{⊎_elim}
+use Rattle.homeo_lemmas.proofs.Places.{get_map, set_itself}
 use Rattle.homeo_syntax.specs.Listed.{Listed}
 use Rattle.homeo_syntax.specs.Source as source
 use Rattle.homeo_syntax.specs.SourceView.{plain_workload}
@@ -22,7 +23,7 @@ use Rattle.homeo_plan.proofs.PlannedCalls.{site_below}
 use Rattle.homeo_history.specs.Answers.{Answer, local_answer}
 use Rattle.homeo_history.specs.Legal.{IsCallAt}
 use Rattle.homeo_history.proofs.CallRuns.{site_is}
-use Rattle.homeo_history.proofs.Lists.{get_map, get_index, set_cases, length_set}
+use Rattle.homeo_history.proofs.Lists.{get_index, set_cases, length_set}
 use Rattle.homeo_site.specs.BareView.{BareValue, after_bare, after_ran, IsRan}
 use Rattle.homeo_site.specs.declared.bare.Ran.{Ran}
 use Rattle.homeo_site.specs.declared.bare.Ran.TheVariants.{Kept, Breaks}
@@ -32,7 +33,7 @@ use Rattle.homeo_nodes.specs.declared.breach.Breach.{Breach}
 use Rattle.homeo_nodes.specs.Brief.{Brief, Answered, zeros, brief_at, site_at, briefly_by, briefly}
 use Rattle.homeo_nodes.specs.Making as n
 use Rattle.homeo_nodes.specs.Nodes.{folded, own_answer}
-use Rattle.homeo_nodes.proofs.Places.{set_itself, map_set}
+use Rattle.homeo_nodes.proofs.Places.{map_set}
 use Rattle.homeo_carry.specs.CarryView.{plain_bounds}
 use Rattle.homeo_carry.specs.declared.answers.Answers.{Answers}
 use Rattle.homeo_carry.specs.declared.bounds.Bounds.{Bounds}

@@ -5,11 +5,11 @@ use Rattle.std.proofs.Common.{◌≡◌, ℕ, ◌+◌, ◌<◌, List, [], ◌∷
 use Rattle.std.specs.Prelude.{All}
 use Rattle.std.specs.Int.{w64}
 use Rattle.std.proofs.lemmas.List.{take-map, take_all}
+use Rattle.homeo_lemmas.proofs.Lists.{map_take_more}
 use Rattle.homeo_syntax.specs.Source as s
 use Rattle.homeo_meaning.specs.Acceptance.{IsAccepted}
 use Rattle.homeo_meaning.specs.Bounds.{IsWithin}
 use Rattle.homeo_meaning.specs.Schema.{schema_of}
-use Rattle.homeo_meaning.proofs.TakenItems.{take_next}
 use Rattle.homeo_core.proofs.InRounds.{all_fit}
 use Rattle.homeo_round.specs.PlusDeltas.{plus_deltas}
 use Rattle.homeo_nodes.specs.Nodes.{folded}
@@ -26,7 +26,7 @@ module _ {X : Type 0} (deltas_of : X → List ℤ) (base : List ℤ) (xs : List 
   fold_next next deltas lent sum =
       sum ∙ ap (plus_deltas now) lent ∙ ap (λ v. plus_deltas v (deltas_of x)) so
       ∙ sym (folded_push base (map deltas_of (take i xs)) (deltas_of x))
-      ∙ ap (folded base) (sym (take_next deltas_of xs i x lt is))
+      ∙ ap (folded base) (sym (map_take_more deltas_of xs i x lt is))
 
   pub fits_next : (deltas : List ℤ) → deltas ≡ deltas_of x → FoldsFit base (map deltas_of xs) → All (FitsSigned w64) (plus_deltas now deltas)
   fits_next deltas lent fit =

@@ -1,10 +1,11 @@
 use Rattle.std.proofs.Common.{◌≡◌, ap, ◌∙◌}
+use Rattle.homeo_lemmas.proofs.Options.{if_some}
 use Rattle.homeo_syntax.specs.Listed.{Listed}
 use Rattle.homeo_syntax.specs.SourceView.{plain_workload}
 use Rattle.homeo_nodes.specs.Nodes.{folded}
 use Rattle.homeo_carry.specs.inner.Carrying.{plain_called, deltas_in}
 use Rattle.homeo_carry.proofs.OneCall.{rounds_fit, rounds_within}
-use Rattle.homeo_carry.proofs.Outcomes.{if_some, some_of}
+use Rattle.homeo_carry.proofs.Outcomes.{some_of}
 use Rattle.homeo_carry.proofs.carrying.close_round.Goals as goal
 
 pub returns-in_default-clause-goes_on : goal.returns-in_default-clause-goes_on

@@ -1,5 +1,6 @@
 use Rattle.std.proofs.Common.{◌≡◌, ◌+◌, ◌<◌, ◌^◌, length, map, ap, subst, ◌∙◌, arith}
 use Rattle.std.proofs.lemmas.List.{length-map}
+use Rattle.homeo_lemmas.proofs.Options.{if_some}
 use Rattle.homeo_syntax.specs.Listed.{Listed}
 use Rattle.homeo_syntax.specs.SourceView.{plain_workload}
 use Rattle.homeo_syntax.specs.declared.workload.Workload.{Workload}
@@ -12,7 +13,7 @@ use Rattle.homeo_carry.specs.CarryView.{plain_said}
 use Rattle.homeo_carry.specs.declared.answers.Answers.{Answers}
 use Rattle.homeo_carry.specs.inner.Carrying.{plain_called, brief_of, deltas_said, closed_by, IsOf, IsNext}
 use Rattle.homeo_carry.proofs.Closes.{said_fit, said_within, can_make_all, makes, is_closed}
-use Rattle.homeo_carry.proofs.Outcomes.{if_some, some_of}
+use Rattle.homeo_carry.proofs.Outcomes.{some_of}
 use Rattle.homeo_carry.proofs.closing.close.Goals as goal
 
 pub returns-in_default-clause-closes : goal.returns-in_default-clause-closes
