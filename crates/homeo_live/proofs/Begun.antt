@@ -40,9 +40,6 @@ use Rattle.homeo_live.specs.inner.Standing.{node_of, IsModeOf, AreCallsOf, IsLiv
 abbrev pub value_of : Workload → SiteState → Mode → Option Breach → List (Option Said) → Option Past → List CallId → LiveValue
 value_of work x mode decided states past queue = record { work = work; node = node_of x mode decided states past queue }
 
-pub if_some : {X : Type 0} (P : X → Type 0) (o : Option X) (x : X) → IfSome o P → o ≡ Some x → P x
-if_some P o x h e = subst (λ p. IfSome p P) e h
-
 -- ---- the first round
 pub begun_live : (work planner : Workload) (bounds : List Bounds) (start : StartValue) (site round : ℕ) (base : List ℤ) (new : BareValue) (states : List (Option Said)) (count : ℕ) (queue : List CallId) → IsAccepted (plain_workload work) → planner ≡ work → map plain_bounds bounds ≡ all_bounds (schema_of (plain_workload work)) → start ≡ record { work = work; number = site; round = round; base = base } → new ≡ bare_begun start → map plain_state states ≡ replicate count None → count ≡ sites_of (plain_workload work) → queue ≡ [] → IsLive planner bounds new Running states None queue
 unfolding site_definitions

@@ -3,6 +3,7 @@ use Rattle.homeo_nodes.specs.Key.{definitions as node_definitions}
 use Rattle.std.proofs.Common.{◌≡◌, ℕ, ◌<◌, List, [], ◌∷◌, ◌++◌, map, Bool, true, false, cond, Option, Some, None, Result, Ok, Err, refl, sym, ap, subst, ◌∙◌, slice_set}
 use Rattle.std.specs.Prelude.{IfOk, IfSome, is_some, not, ◌&&◌, ◌==◌, ◌%◌}
 use Rattle.std.proofs.lemmas.List.{append-nil, map-append}
+use Rattle.std.proofs.lemmas.Bool.{eq-eqb, ne_eqb, cond-true, cond-false}
 use Rattle.homeo_syntax.specs.Source as s
 use Rattle.homeo_syntax.specs.SourceView.{plain_workload}
 use Rattle.homeo_syntax.specs.declared.workload.Workload.{Workload}
@@ -16,7 +17,6 @@ use Rattle.homeo_nodes.specs.declared.breach.Mode.TheVariants.{Running, Waiting,
 use Rattle.homeo_nodes.specs.Coming.{CanClose, CanCome}
 use Rattle.homeo_nodes.specs.Nodes as n
 use Rattle.homeo_nodes.specs.Small.{Small, small, grown}
-use Rattle.homeo_nodes.proofs.Places.{test_true, test_false, cond_true, cond_false}
 use Rattle.homeo_carry.specs.declared.said.Said.{Said}
 use Rattle.homeo_live.specs.declared.packet.Packet.{Packet}
 use Rattle.homeo_live.specs.declared.packet.Step.{Step}
@@ -32,12 +32,12 @@ may_choose w y = (y.number == (y.round % sites_of w)) && not (is_some y.decided)
 pub want_left : (w : s.Workload) (y : Small) (b : Breach) (before : List Packet) (step : Step) → may_choose w y ≡ false → plain_step step ≡ n.Ignored → IsReaction (n.taken w (grown y) (n.Want b)) y before before step
 unfolding node_definitions
 want_left w y b before step e came =
-    idle_is (n.taken w (grown y) (n.Want b)) y before before step n.Ignored (cond_false (may_choose w y) _ (n.stays (grown y) n.Ignored) e) refl came
+    idle_is (n.taken w (grown y) (n.Want b)) y before before step n.Ignored (cond-false (may_choose w y) _ (n.stays (grown y) n.Ignored) e) refl came
 
 pub want_taken : (w : s.Workload) (y new : Small) (b : Breach) (before after : List Packet) (p : Packet) (step : Step) → may_choose w y ≡ true → new ≡ record y { decided = Some b } → plain_packet p ≡ n.Stop b → after ≡ before ++ p ∷ [] → plain_step step ≡ n.Taken → IsReaction (n.taken w (grown y) (n.Want b)) new before after step
 unfolding node_definitions
 want_taken w y new b before after p step e is packet more came =
-    subst (λ q. IsReaction q new before after step) (sym (cond_true (may_choose w y) (record { node = record (grown y) { decided = Some b }; sends = n.Stop b ∷ []; step = n.Taken }) (n.stays (grown y) n.Ignored) e)) (record {
+    subst (λ q. IsReaction q new before after step) (sym (cond-true (may_choose w y) (record { node = record (grown y) { decided = Some b }; sends = n.Stop b ∷ []; step = n.Taken }) (n.stays (grown y) n.Ignored) e)) (record {
       node = is;
       sends = ap (map plain_packet) more ∙ map-append plain_packet before (p ∷ []) ∙ ap (λ q. map plain_packet before ++ q ∷ []) packet;
       came_to = came;
@@ -58,7 +58,7 @@ module _ (w : s.Workload) (y : Small) where
   pub left_state : (r k : ℕ) (said : n.Said) → n.has_state y.states k ≡ true → n.taken w (grown y) (n.State r k said) ≡ n.stays (grown y) n.Ignored
   unfolding node_definitions
   left_state r k said there =
-      cond_true (n.has_state y.states k) (n.stays (grown y) n.Ignored) (record { node = n.settled w (n.keeping (grown y) k said); sends = []; step = n.closing_step w (n.keeping (grown y) k said) }) there
+      cond-true (n.has_state y.states k) (n.stays (grown y) n.Ignored) (record { node = n.settled w (n.keeping (grown y) k said); sends = []; step = n.closing_step w (n.keeping (grown y) k said) }) there
 
   abbrev pub keeps : ℕ → n.Said → n.Node
   keeps k said = placed y y.mode (slice_set y.states k (Some said))
@@ -66,7 +66,7 @@ module _ (w : s.Workload) (y : Small) where
   pub taken_state : (r k : ℕ) (said : n.Said) → n.has_state y.states k ≡ false → n.taken w (grown y) (n.State r k said) ≡ record { node = n.settled w (keeps k said); sends = []; step = n.closing_step w (keeps k said) }
   unfolding node_definitions
   taken_state r k said there =
-      cond_false (n.has_state y.states k) (n.stays (grown y) n.Ignored) (record { node = n.settled w (n.keeping (grown y) k said); sends = []; step = n.closing_step w (n.keeping (grown y) k said) }) there
+      cond-false (n.has_state y.states k) (n.stays (grown y) n.Ignored) (record { node = n.settled w (n.keeping (grown y) k said); sends = []; step = n.closing_step w (n.keeping (grown y) k said) }) there
 
   abbrev pub own_said : n.Said
   own_said = record { deltas = y.deltas; calls = y.queue }
@@ -77,12 +77,12 @@ module _ (w : s.Workload) (y : Small) where
   pub left_stop : (b c : Breach) → y.mode ≡ Stopped c → n.taken w (grown y) (n.Stop b) ≡ n.stays (grown y) n.Ignored
   unfolding node_definitions
   left_stop b c there =
-      cond_true (n.is_stopped y.mode) (n.stays (grown y) n.Ignored) (record { node = n.settled w (n.stopped (grown y) b); sends = n.State y.round y.number own_said ∷ []; step = n.closing_step w (n.stopped (grown y) b) }) (ap n.is_stopped there)
+      cond-true (n.is_stopped y.mode) (n.stays (grown y) n.Ignored) (record { node = n.settled w (n.stopped (grown y) b); sends = n.State y.round y.number own_said ∷ []; step = n.closing_step w (n.stopped (grown y) b) }) (ap n.is_stopped there)
 
   pub taken_stop : (b : Breach) → n.is_stopped y.mode ≡ false → n.taken w (grown y) (n.Stop b) ≡ record { node = n.settled w (stops b); sends = n.State y.round y.number own_said ∷ []; step = n.closing_step w (stops b) }
   unfolding node_definitions
   taken_stop b there =
-      cond_false (n.is_stopped y.mode) (n.stays (grown y) n.Ignored) (record { node = n.settled w (n.stopped (grown y) b); sends = n.State y.round y.number own_said ∷ []; step = n.closing_step w (n.stopped (grown y) b) }) there
+      cond-false (n.is_stopped y.mode) (n.stays (grown y) n.Ignored) (record { node = n.settled w (n.stopped (grown y) b); sends = n.State y.round y.number own_said ∷ []; step = n.closing_step w (n.stopped (grown y) b) }) there
 
 pub said_is : (w : s.Workload) (y : Small) (said : n.Said) → said ≡ n.said_by (grown y) → said ≡ own_said w y
 unfolding node_definitions
@@ -136,11 +136,11 @@ left_node w y p is = ap (λ (r : n.Reaction). small r.node) (sym is)
 -- ---- a packet by its round
 pub received_own : (w : s.Workload) (p : n.Packet) (y : Small) → n.round_of p ≡ y.round → n.received w p (grown y) ≡ n.taken w (grown y) p
 unfolding node_definitions
-received_own w p y e = cond_true (n.round_of p == y.round) (n.taken w (grown y) p) (n.stays (grown y) n.Ignored) (test_true (n.round_of p) y.round e)
+received_own w p y e = cond-true (n.round_of p == y.round) (n.taken w (grown y) p) (n.stays (grown y) n.Ignored) (eq-eqb (n.round_of p) y.round e)
 
 pub received_other : (w : s.Workload) (p : n.Packet) (y : Small) → (n.round_of p ≡ y.round → ⊥) → n.received w p (grown y) ≡ n.stays (grown y) n.Ignored
 unfolding node_definitions
-received_other w p y e = cond_false (n.round_of p == y.round) (n.taken w (grown y) p) (n.stays (grown y) n.Ignored) (test_false (n.round_of p) y.round e)
+received_other w p y e = cond-false (n.round_of p == y.round) (n.taken w (grown y) p) (n.stays (grown y) n.Ignored) (ne_eqb (n.round_of p) y.round e)
 
 no_sends : (w : s.Workload) (y : Small) (k : ℕ) (said : n.Said) (t : Bool) → (cond t (n.stays (grown y) n.Ignored) (record { node = n.settled w (n.keeping (grown y) k said); sends = []; step = n.closing_step w (n.keeping (grown y) k said) })).sends ≡ []
 unfolding node_definitions

@@ -1,11 +1,13 @@
 -- What a node in memory stands for, and what it does with calls.
 use Rattle.homeo_site.specs.Key.{definitions as site_definitions}
 use Rattle.homeo_nodes.specs.Key.{definitions as node_definitions}
-use Rattle.std.proofs.Common.{◌≡◌, ◌<◌, ◌≤◌, List, drop, [], ◌∷◌, ◌++◌, map, length, get_or, Bool, true, false, cond, ℤ, Option, Some, None, refl, sym, ap, subst, ◌∙◌, arith}
+use Rattle.std.proofs.Common.{◌≡◌, ◌<◌, ◌≤◌, List, drop, [], ◌∷◌, ◌++◌, map, length, get_or, false, cond, ℤ, Option, Some, None, refl, sym, ap, subst, ◌∙◌, arith}
 use Rattle.std.specs.Prelude.{All, nat_lt}
 use Rattle.std.proofs.lemmas.Bool.Decides.{nat_tests}
 use Rattle.std.proofs.lemmas.List.{append-nil, drop_more, map-append}
 use Rattle.std.proofs.lemmas.List.Elements.{All-head}
+use Rattle.std.proofs.lemmas.Bool.{cond-true, cond-false}
+use Rattle.homeo_lemmas.proofs.Bools.{cond_same}
 use Rattle.homeo_syntax.specs.Source as s
 use Rattle.homeo_syntax.specs.SourceView.{plain_workload}
 use Rattle.homeo_syntax.specs.declared.workload.Workload.{Workload}
@@ -18,7 +20,6 @@ use Rattle.homeo_nodes.specs.declared.breach.Mode.{Mode}
 use Rattle.homeo_nodes.specs.declared.breach.Mode.TheVariants.{Running, Waiting, Stopped}
 use Rattle.homeo_nodes.specs.Nodes as n
 use Rattle.homeo_nodes.specs.Small.{Small, small, grown}
-use Rattle.homeo_nodes.proofs.Places.{cond_true, cond_false}
 use Rattle.homeo_carry.specs.declared.bounds.Bounds.{Bounds}
 use Rattle.homeo_carry.specs.declared.said.Said.{Said}
 use Rattle.homeo_live.specs.declared.packet.Packet.{Packet}
@@ -61,7 +62,7 @@ first_at P x xs ys e h = All-head P x xs (subst (All P) e h)
 asked_held : (call : CallId) (y : Small) → 64 ≤ length y.queue → n.asked call (grown y) ≡ n.stays (grown y) n.Held
 unfolding node_definitions
 asked_held call y many =
-    cond_false (nat_lt (length y.queue) 64) _ (n.stays (grown y) n.Held) (grind (arith, nat_tests, many))
+    cond-false (nat_lt (length y.queue) 64) _ (n.stays (grown y) n.Held) (grind (arith, nat_tests, many))
 
 pub held_node : (call : CallId) (y : Small) → 64 ≤ length y.queue → y ≡ small (n.asked call (grown y)).node
 unfolding node_definitions
@@ -73,7 +74,7 @@ held_step call y many = ap (λ (r : n.Reaction). r.step) (sym (asked_held call y
 asked_queued : (call : CallId) (y : Small) → length y.queue < 64 → (small (n.asked call (grown y)).node ≡ record y { queue = y.queue ++ call ∷ [] }) × ((n.asked call (grown y)).step ≡ n.Queued)
 unfolding node_definitions
 asked_queued call y few =
-    let is = cond_true (nat_lt (length y.queue) 64) _ (n.stays (grown y) n.Held) (grind (arith, nat_tests, few)) in
+    let is = cond-true (nat_lt (length y.queue) 64) _ (n.stays (grown y) n.Held) (grind (arith, nat_tests, few)) in
     (ap (λ (r : n.Reaction). small r.node) is, ap (λ (r : n.Reaction). r.step) is)
 
 pub queued_node : (work : Workload) (x : SiteState) (mode : Mode) (decided : Option Breach) (states : List (Option Said)) (past : Option Past) (queue : List CallId) (u : LiveValue) → value_in work x mode decided states past queue ≡ u → (call : CallId) (more : List CallId) → length queue < 64 → more ≡ queue ++ call ∷ [] → node_of x mode decided states past more ≡ small (n.asked call (grown u.node)).node
@@ -100,21 +101,17 @@ not_running (Stopped b) other = refl
 pub served_running : (w : s.Workload) (y : Small) → y.mode ≡ Running → n.served w (grown y) ≡ n.served_by w (grown y) y.queue
 unfolding node_definitions
 served_running w y e =
-    cond_true (n.is_running y.mode) (n.served_by w (grown y) y.queue) (n.stays (grown y) n.Held) (ap n.is_running e)
+    cond-true (n.is_running y.mode) (n.served_by w (grown y) y.queue) (n.stays (grown y) n.Held) (ap n.is_running e)
 
 pub served_held : (w : s.Workload) (y : Small) → (y.mode ≡ Running → ⊥) → n.served w (grown y) ≡ n.stays (grown y) n.Held
 unfolding node_definitions
 served_held w y other =
-    cond_false (n.is_running y.mode) (n.served_by w (grown y) y.queue) (n.stays (grown y) n.Held) (not_running y.mode other)
-
-either_way : {X : Type 0} (t : Bool) (x : X) → cond t x x ≡ x
-either_way true x = refl
-either_way false x = refl
+    cond-false (n.is_running y.mode) (n.served_by w (grown y) y.queue) (n.stays (grown y) n.Held) (not_running y.mode other)
 
 pub served_none : (w : s.Workload) (y : Small) → y.queue ≡ [] → n.served w (grown y) ≡ n.stays (grown y) n.Held
 unfolding node_definitions
 served_none w y e =
-    ap (λ l. cond (n.is_running y.mode) (n.served_by w (grown y) l) (n.stays (grown y) n.Held)) e ∙ either_way (n.is_running y.mode) (n.stays (grown y) n.Held)
+    ap (λ l. cond (n.is_running y.mode) (n.served_by w (grown y) l) (n.stays (grown y) n.Held)) e ∙ cond_same (n.is_running y.mode) (n.stays (grown y) n.Held)
 
 -- ---- the first call that waits
 module _ (work v : Workload) (x : SiteState) (mode : Mode) (decided : Option Breach) (states : List (Option Said)) (past : Option Past) (queue : List CallId) (u : LiveValue) (is : value_in work x mode decided states past queue ≡ u) (same : v ≡ work) (call : CallId) (rest : List CallId) (first : queue ≡ call ∷ rest) (before after : List Packet) (step : Step) where

@@ -1,7 +1,7 @@
 -- What a node sends again.
 use Rattle.homeo_nodes.specs.Key.{definitions as node_definitions}
-use Rattle.std.proofs.Common.{◌≡◌, ℕ, zero, suc, ◌<◌, ◌≤◌, List, [], ◌∷◌, ◌++◌, map, length, get_or, Option, Some, None, Result, Ok, Err, sym, ap, ◌∙◌, arith, append_assoc, append-nil}
-use Rattle.std.specs.Prelude.{OnOk, IfSome, slice_index_or}
+use Rattle.std.proofs.Common.{◌≡◌, ℕ, zero, suc, ◌<◌, ◌≤◌, List, [], ◌∷◌, ◌++◌, map, length, get_or, Option, Some, None, sym, ap, ◌∙◌, arith, append_assoc, append-nil}
+use Rattle.std.specs.Prelude.{IfSome, slice_index_or}
 use Rattle.std.proofs.lemmas.List.{map-append}
 use Rattle.homeo_syntax.specs.Listed.{Listed}
 use Rattle.homeo_nodes.specs.declared.breach.Breach.{Breach}
@@ -14,10 +14,6 @@ use Rattle.homeo_carry.specs.declared.said.Said.{Said}
 use Rattle.homeo_live.specs.declared.packet.Packet.{Packet}
 use Rattle.homeo_live.specs.declared.state.Past.{Past}
 use Rattle.homeo_live.specs.LiveView.{plain_packet, plain_state}
-
-pub on_ok : {X E P Q : Type 0} (r : Result X E) → (P → Q) → OnOk r P → OnOk r Q
-on_ok (Ok x) f h = f h
-on_ok (Err e) f h = tt
 
 pub push_sent : (old new : Listed Packet) (spare : ℕ) (p : Packet) (q : n.Packet) → plain_packet p ≡ q → new ≡ record { items = old.items ++ p ∷ []; spare = spare } → map plain_packet new.items ≡ map plain_packet old.items ++ q ∷ []
 push_sent old new spare p q e is =

@@ -1,9 +1,9 @@
 use Rattle.std.proofs.Common.{◌≡◌, ℤ, refl, subst, ◌∙◌}
 use Rattle.std.specs.Prelude.{IsTrue, IsSome}
+use Rattle.homeo_lemmas.proofs.Options.{if_some}
 use Rattle.homeo_syntax.specs.Listed.{Listed}
 use Rattle.homeo_syntax.specs.SourceView.{plain_workload}
 use Rattle.homeo_round.specs.PlusDeltas.{plus_deltas}
-use Rattle.homeo_live.proofs.Begun.{if_some}
 use Rattle.homeo_live.proofs.Fitting.{all_in, fitting, as_many, sum_fits, sum_in}
 use Rattle.homeo_live.proofs.fits.values_fit.Goals as goal
 use Rattle.homeo_live.proofs.fits.values_fit.Goals.{then-not-are_in-via-then-not-are_in, then-not-are_in-via-else-not-are_in+then-deltas-bounds}

@@ -1,9 +1,10 @@
 use Rattle.std.proofs.Common.{map, sym, ap, ◌∙◌}
 use Rattle.std.proofs.lemmas.List.{take_all}
+use Rattle.homeo_lemmas.proofs.Options.{some_of}
 use Rattle.homeo_nodes.specs.Nodes.{all_of}
 use Rattle.homeo_live.specs.LiveView.{plain_state}
 use Rattle.homeo_live.proofs.LiveLists.{kept_next}
-use Rattle.homeo_live.proofs.StateLists.{some_of, state_missing}
+use Rattle.homeo_live.proofs.StateLists.{state_missing}
 use Rattle.homeo_live.proofs.states.kept_states.Goals as goal
 
 pub unreachable-requires : goal.unreachable-requires

@@ -1,6 +1,7 @@
 use Rattle.homeo_live.specs.Key.{definitions}
 use Rattle.std.proofs.Common.{◌≡◌, true, ◌<◌, ◌+ℤ◌, length, sym, ap, subst, ◌∙◌}
 use Rattle.std.specs.Prelude.{is_some}
+use Rattle.homeo_lemmas.proofs.Options.{if_some}
 use Rattle.homeo_syntax.specs.SourceView.{plain_workload}
 use Rattle.homeo_syntax.specs.declared.workload.Workload.{Workload}
 use Rattle.homeo_meaning.specs.Acceptance.{IsAccepted}
@@ -11,7 +12,7 @@ use Rattle.homeo_plan.specs.Planned.{sites_of}
 use Rattle.homeo_history.specs.Replayed.{MeetsTreaty}
 use Rattle.homeo_site.specs.SiteView.{StartValue}
 use Rattle.homeo_live.specs.inner.Standing.{IsFit}
-use Rattle.homeo_live.proofs.Begun.{if_some, fit_live, fit_view, reached_fits, reached_meets}
+use Rattle.homeo_live.proofs.Begun.{fit_live, fit_view, reached_fits, reached_meets}
 use Rattle.homeo_live.proofs.live.LiveNode.begin_at.Goals as goal
 
 pub start-requires-clause-within : goal.start-requires-clause-within
