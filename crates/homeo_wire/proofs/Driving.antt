@@ -5,21 +5,23 @@ use Rattle.std.proofs.Common.{◌≡◌, ℕ, zero, suc, ◌+◌, ◌*◌, ◌<�
 use Rattle.std.specs.Prelude.{slice_get, ◌||◌, option_map, OnOk}
 use Rattle.std.proofs.lemmas.Bool.Decides.{nat_tests}
 use Rattle.std.specs.List.{range_with_len, list_any, flat_map}
-use Rattle.std.proofs.lemmas.List.{length-append, length-map}
+use Rattle.std.proofs.lemmas.List.{length-append, length-map, append-nil}
 use Rattle.std.proofs.lemmas.List.FromFn.{map-range_with_len_more}
+use Rattle.std.proofs.lemmas.Option.{slice_get_within}
+use Rattle.homeo_lemmas.proofs.Bools.{or_false, or_assoc, or_true}
+use Rattle.homeo_lemmas.proofs.Lists.{range_more, take_past}
+use Rattle.homeo_lemmas.proofs.Places.{get_left, get_map}
 use Rattle.homeo_syntax.specs.Source as s
 use Rattle.homeo_syntax.specs.SourceView.{plain_call, plain_client}
 use Rattle.homeo_syntax.specs.declared.phrase.Ident.{Ident}
 use Rattle.homeo_syntax.specs.declared.workload.Client.{Client}
 use Rattle.homeo_syntax.specs.declared.workload.Call.{Call as CallText}
 use Rattle.homeo_plan.specs.Planned.{sites_of}
-use Rattle.homeo_history.proofs.Lists.{get_map, get_lt, range_more}
 use Rattle.homeo_draws.specs.Draws.{next_state, drawn}
 use Rattle.homeo_wire.specs.declared.events.Event.{Event}
 use Rattle.homeo_wire.specs.declared.events.Event.TheVariants.{Call, Deliver}
 use Rattle.homeo_wire.specs.Drive.{calls_in, excess, drive, chosen_event, turns, all_to, to_sites, sweeps, call_of_each, has_left, until_made}
 use Rattle.homeo_wire.specs.Nodes.{Node, Packet, Reaction, World, reacts, calls, delivers, happens, after, at_start, reached}
-use Rattle.homeo_wire.proofs.StateLists.{take_past}
 use Rattle.homeo_wire.proofs.Wires.{after_append}
 
 -- ---- lists of events
@@ -74,7 +76,7 @@ module _ (w : s.Workload) where
 
   past_none : (o : Option s.Call) (name : Ident) → slice_get (calls_in w) 200 ≡ o → option_map (λ (c : s.Call). c.name) o ≡ Some name → length (calls_in w) ≤ 200 → ⊥
   past_none None name e f few = absurd (cc)
-  past_none (Some call) name e f few = let lt = get_lt (calls_in w) 200 call e in omega (arith, few, lt)
+  past_none (Some call) name e f few = let lt = slice_get_within (calls_in w) 200 call e in omega (arith, few, lt)
 
   pub too_many : (name : Ident) → option_map (λ (c : s.Call). c.name) (excess w) ≡ Some name → length (calls_in w) ≤ 200 → ⊥
   unfolding definitions
@@ -105,15 +107,7 @@ module _ (w : s.Workload) where
 module _ (test : ℕ → Bool) where
   any_append : (xs : List ℕ) (x : ℕ) → list_any test (xs ++ x ∷ []) ≡ (list_any test xs || test x)
   any_append [] x = or_false (test x)
-    where
-      or_false : (t : Bool) → (t || false) ≡ t
-      or_false true = refl
-      or_false false = refl
-  any_append (y ∷ xs) x = ap (λ t. test y || t) (any_append xs x) ∙ or_three (test y) (list_any test xs) (test x)
-    where
-      or_three : (a b c : Bool) → (a || (b || c)) ≡ ((a || b) || c)
-      or_three true b c = refl
-      or_three false b c = refl
+  any_append (y ∷ xs) x = ap (λ t. test y || t) (any_append xs x) ∙ or_assoc (test y) (list_any test xs) (test x)
 
   pub none_next : (i : ℕ) → list_any test (range_with_len 0 i) ≡ false → test i ≡ false → list_any test (range_with_len 0 (i + 1)) ≡ false
   none_next i none fails =
@@ -126,19 +120,11 @@ module _ (test : ℕ → Bool) where
   any_from a (suc n) zero lt passes = ap (λ t. t || list_any test (range_with_len (a + 1) n)) (ap test (let h : a ≡ a + zero = omega arith in h) ∙ passes)
   any_from a (suc n) (suc i) lt passes =
       ap (λ t. test a || t) (any_from (a + 1) n i (omega (arith, lt)) (ap test (let h : (a + 1) + i ≡ a + suc i = omega arith in h) ∙ passes)) ∙ or_true (test a)
-    where
-      or_true : (t : Bool) → (t || true) ≡ true
-      or_true true = refl
-      or_true false = refl
 
   pub any_here : (n i : ℕ) → i < n → test i ≡ true → list_any test (range_with_len 0 n) ≡ true
   any_here n i lt passes = any_from 0 n i lt (ap test (let h : 0 + i ≡ i = omega arith in h) ∙ passes)
 
 -- ---- the calls of all clients
-append_none : {X : Type 0} (xs : List X) → xs ++ [] ≡ xs
-append_none [] = refl
-append_none (x ∷ xs) = ap (λ l. x ∷ l) (append_none xs)
-
 assoc : {X : Type 0} (xs ys zs : List X) → xs ++ (ys ++ zs) ≡ (xs ++ ys) ++ zs
 assoc [] ys zs = refl
 assoc (x ∷ xs) ys zs = ap (λ l. x ∷ l) (assoc xs ys zs)
@@ -150,7 +136,7 @@ calls_suc : (clients : List Client) (i : ℕ) (client : Client) → i < length c
 unfolding syntax_definitions
 calls_suc [] i client lt e = absurd (omega (arith, lt))
 calls_suc (c ∷ clients) zero client lt e =
-    (calls_of clients, (ap (λ (x : Client). map plain_call x.calls.items ++ calls_of clients) (sym e), ap (λ (x : Client). map plain_call x.calls.items ++ []) (sym e) ∙ append_none (map plain_call client.calls.items)))
+    (calls_of clients, (ap (λ (x : Client). map plain_call x.calls.items ++ calls_of clients) (sym e), ap (λ (x : Client). map plain_call x.calls.items ++ []) (sym e) ∙ append-nil (map plain_call client.calls.items)))
 calls_suc (c ∷ clients) (suc i) client lt e =
     let h = calls_suc clients i client (omega (arith, lt)) e in
     (h.0, (ap (λ l. map plain_call c.calls.items ++ l) h.1.0 ∙ assoc (map plain_call c.calls.items) (calls_of (take i clients)) (map plain_call client.calls.items ++ h.0), ap (λ l. map plain_call c.calls.items ++ l) h.1.1 ∙ assoc (map plain_call c.calls.items) (calls_of (take i clients)) (map plain_call client.calls.items)))
@@ -168,18 +154,13 @@ get_past_left [] ys i = ap (slice_get ys) (let h : 0 + i ≡ i = omega arith in 
 get_past_left (x ∷ xs) ys i =
     ap (slice_get (x ∷ (xs ++ ys))) (let h : suc (length xs) + i ≡ suc (length xs + i) = omega arith in h) ∙ get_past_left xs ys i
 
-get_in_left : {X : Type 0} (xs ys : List X) (i : ℕ) (x : X) → slice_get xs i ≡ Some x → slice_get (xs ++ ys) i ≡ Some x
-get_in_left [] ys i x e = absurd (cc)
-get_in_left (z ∷ xs) ys zero x e = e
-get_in_left (z ∷ xs) ys (suc i) x e = get_in_left xs ys i x e
-
 -- the call at a place among a client's is one of all calls
 pub call_among : (clients : List Client) (i : ℕ) (client : Client) → i < length clients → client ≡ get_or clients i client → (place : ℕ) (call : CallText) → slice_get client.calls.items place ≡ Some call → slice_get (calls_of clients) (length (calls_of (take i clients)) + place) ≡ Some (plain_call call)
 call_among clients i client lt e place call here =
     let h = calls_suc clients i client lt e in
     ap (λ l. slice_get l (length (calls_of (take i clients)) + place)) h.1.0
     ∙ get_past_left (calls_of (take i clients)) (map plain_call client.calls.items ++ h.0) place
-    ∙ get_in_left (map plain_call client.calls.items) h.0 place (plain_call call) (get_map plain_call client.calls.items place call here)
+    ∙ get_left (map plain_call client.calls.items) h.0 place (plain_call call) (get_map plain_call client.calls.items place call here)
 
 pub on_ok_map : {T E : Type 0} (r : Result T E) (P Q : Type 0) → (P → Q) → OnOk r P → OnOk r Q
 on_ok_map (Ok x) P Q f h = f h

@@ -10,13 +10,18 @@ use Rattle.std.specs.List.{range_with_len}
 use Rattle.std.specs.Option.{option_map_or}
 use Rattle.std.proofs.lemmas.Int.{ints}
 use Rattle.std.proofs.lemmas.List.{append-nil, length-map, length_push, map-append, take-map}
+use Rattle.std.proofs.lemmas.Option.{slice_get_past, slice_get_within}
+use Rattle.std.proofs.lemmas.Simd.{map-map}
+use Rattle.std.proofs.lemmas.Bool.{cases_eq, eq-eqb, ne_eqb, eqb-true, cond-true, cond-false}
+use Rattle.std.proofs.lemmas.List.FromFn.{length-range_with_len}
 use mathlib.Core.Logic.{⊎_elim}
+use Rattle.homeo_lemmas.proofs.Places.{get_take, All-get, get_left, get_map, same_list}
 use Rattle.homeo_syntax.specs.Source as s
 use Rattle.homeo_plan.specs.Planned.{sites_of}
 use Rattle.homeo_history.specs.History.{Entry, Round}
 use Rattle.homeo_history.specs.Legal.{calls_of, numbers_of}
 use Rattle.homeo_history.specs.Merge.{segment_of}
-use Rattle.homeo_history.proofs.Lists.{All-get, get_index, get_past, get_some, get_lt, get_end, get_left, get_map, get_map_back, map_map}
+use Rattle.homeo_history.proofs.Lists.{get_index, get_past, get_some, get_end, get_map_back}
 use Rattle.homeo_site.specs.SiteState.{SiteState}
 use Rattle.homeo_round.specs.PlusDeltas.{plus_deltas}
 use Rattle.homeo_core.specs.Joined.{BookState, segments_of, gathered, rounds_of}
@@ -25,8 +30,8 @@ use Rattle.homeo_core.specs.Events.{closing_on}
 use Rattle.homeo_wire.specs.Nodes.{Packet, Left, Journal, folded}
 use Rattle.homeo_wire.specs.Read.{last_round, ran_in, rounds_left, history_by, history_of, counts_in}
 use Rattle.homeo_wire.proofs.Courses.{Turn, caught_up, site_then, sites_then, up_here, up_behind, AreLeft, left_long, left_at, JournalHolds, Course}
-use Rattle.homeo_wire.proofs.Places.{same_or_not, test_true, test_false, is_true, cond_true, cond_false, same_list, map_same}
-use Rattle.homeo_wire.proofs.Starting.{length_range, range_at}
+use Rattle.homeo_wire.proofs.Places.{map_same}
+use Rattle.homeo_wire.proofs.Starting.{range_at}
 
 -- ---- a node in the last round
 pub record Found {X : Type 0} (test : X → Bool) (xs : List X) : Type 0 where
@@ -38,10 +43,10 @@ pub record Found {X : Type 0} (test : X → Bool) (xs : List X) : Type 0 where
 
 module _ {X : Type 0} (test : X → Bool) where
   found_later : (x : X) (xs : List X) → (t : Bool) → test x ≡ t → (t ≡ false → Found test xs) → Found test (x ∷ xs)
-  found_later x xs true e rest = record { item = x; place = 0; is = cond_true (test x) (Some x) (find test xs) e; here = refl; passes = e }
+  found_later x xs true e rest = record { item = x; place = 0; is = cond-true (test x) (Some x) (find test xs) e; here = refl; passes = e }
   found_later x xs false e rest =
       let r = rest refl in
-      record { item = r.item; place = suc r.place; is = cond_false (test x) (Some x) (find test xs) e ∙ r.is; here = r.here; passes = r.passes }
+      record { item = r.item; place = suc r.place; is = cond-false (test x) (Some x) (find test xs) e ∙ r.is; here = r.here; passes = r.passes }
 
   pub found : (xs : List X) (i : ℕ) (x : X) → slice_get xs i ≡ Some x → test x ≡ true → Found test xs
   found [] i x e passes = absurd (cc)
@@ -66,11 +71,6 @@ round_at_least (k ∷ js) zero j e =
 round_at_least (k ∷ js) (suc i) j e = let h = round_at_least js i j e in omega (arith, h)
 
 -- ---- lists
-pub get_none : {X : Type 0} (xs : List X) (i : ℕ) → length xs ≤ i → slice_get xs i ≡ None
-get_none [] i le = refl
-get_none (x ∷ xs) zero le = absurd (omega (arith, le))
-get_none (x ∷ xs) (suc i) le = get_none xs i (omega (arith, le))
-
 plus_zeros : (values : List ℤ) (n : ℕ) → plus_deltas values (replicate n (pos 0)) ≡ values
 unfolding round_definitions
 plus_zeros [] n = refl
@@ -79,13 +79,6 @@ plus_zeros (v ∷ values) (suc n) =
     let here : (v +ℤ pos 0) ≡ v = omega (arith, ints) in
     let rest = plus_zeros values n in
     cc
-
-take_is : {X : Type 0} (xs : List X) (m i : ℕ) (x : X) → slice_get (take m xs) i ≡ Some x → slice_get xs i ≡ Some x
-take_is [] zero i x e = e
-take_is [] (suc m) i x e = e
-take_is (y ∷ xs) zero i x e = absurd (cc)
-take_is (y ∷ xs) (suc m) zero x e = e
-take_is (y ∷ xs) (suc m) (suc i) x e = take_is xs m i x e
 
 abbrev segments : List Left → List (List Entry)
 segments left = map (λ l. l.segment) left
@@ -98,7 +91,7 @@ segment_at xs i y g = get_index xs i y [] g
 -- what the node ran in a closed round
 segment_left : (i r : ℕ) (left : List Left) (rounds : List Round) (q : Round) (after : List (List Entry)) → AreLeft i left rounds → slice_get rounds r ≡ Some q → slice_index_or (segments left ++ after) r [] ≡ segment_of q.segments i
 segment_left i r left rounds q after all e =
-    let lt : r < length left = subst (λ n. r < n) (sym (left_long i left rounds all)) (get_lt rounds r q e) in
+    let lt : r < length left = subst (λ n. r < n) (sym (left_long i left rounds all)) (slice_get_within rounds r q e) in
     let l = get_some left r lt in
     get_index (segments left ++ after) r l.0.segment [] (get_left (segments left) after r l.0.segment (get_map (λ (k : Left). k.segment) left r l.0 l.1))
     ∙ (left_at i r left rounds l.0 q all l.1 e).segment
@@ -135,13 +128,13 @@ then_step top f base j js rest is = ⊎_elim here behind is.then
   where
     here : (j.site.round ≡ top) × (f j ≡ j.site) → gathered base (cond (eqb j.site.round top) (j.site ∷ last_sites top js) (last_sites top js)) ≡ gathered (plus_deltas base (f j).deltas) (map f js)
     here h =
-        ap (gathered base) (cond_true (eqb j.site.round top) (j.site ∷ last_sites top js) (last_sites top js) (test_true j.site.round top h.0))
+        ap (gathered base) (cond-true (eqb j.site.round top) (j.site ∷ last_sites top js) (last_sites top js) (eq-eqb j.site.round top h.0))
         ∙ rest (plus_deltas base j.site.deltas)
         ∙ ap (λ (x : SiteState). gathered (plus_deltas base x.deltas) (map f js)) (sym h.1)
 
     behind : (j.site.round ≡ top → ⊥) × ((n : ℕ) × ((f j).deltas ≡ replicate n (pos 0))) → gathered base (cond (eqb j.site.round top) (j.site ∷ last_sites top js) (last_sites top js)) ≡ gathered (plus_deltas base (f j).deltas) (map f js)
     behind h =
-        ap (gathered base) (cond_false (eqb j.site.round top) (j.site ∷ last_sites top js) (last_sites top js) (test_false j.site.round top h.0))
+        ap (gathered base) (cond-false (eqb j.site.round top) (j.site ∷ last_sites top js) (last_sites top js) (ne_eqb j.site.round top h.0))
         ∙ rest base
         ∙ ap (λ v. gathered v (map f js)) (sym (ap (plus_deltas base) h.1.1 ∙ plus_zeros base h.1.0))
 
@@ -181,11 +174,11 @@ module _ (w : s.Workload) (js : List Journal) (ps : List Packet) (b : BookState)
 
     ran_closed : (r : ℕ) (q : Round) → slice_get b.closed r ≡ Some q → ran_in r j ≡ segment_of q.segments i
     unfolding definitions
-    ran_closed r q e = ⊎_elim (λ up. segment_left i r j.left b.closed q (j.site.segment ∷ []) (left_up up) e) (λ other. ap (λ xs. slice_index_or xs r []) (sym (append-nil (segments j.left ++ j.site.segment ∷ [])) ∙ ap (λ xs. xs ++ []) (sym (map-append (λ (l : Left). l.segment) j.left (newest_of w t j ∷ [])))) ∙ segment_left i r (j.left ++ newest_of w t j ∷ []) b.closed q [] (left_behind other) e) (same_or_not j.site.round top)
+    ran_closed r q e = ⊎_elim (λ up. segment_left i r j.left b.closed q (j.site.segment ∷ []) (left_up up) e) (λ other. ap (λ xs. slice_index_or xs r []) (sym (append-nil (segments j.left ++ j.site.segment ∷ [])) ∙ ap (λ xs. xs ++ []) (sym (map-append (λ (l : Left). l.segment) j.left (newest_of w t j ∷ [])))) ∙ segment_left i r (j.left ++ newest_of w t j ∷ []) b.closed q [] (left_behind other) e) (cases_eq j.site.round top)
 
     ran_last : ran_in top j ≡ (site_then w top t j).segment
     unfolding definitions site_definitions
-    ran_last = ⊎_elim up behind (same_or_not j.site.round top)
+    ran_last = ⊎_elim up behind (cases_eq j.site.round top)
       where
         up : j.site.round ≡ top → slice_index_or (segments j.left ++ j.site.segment ∷ []) top [] ≡ (site_then w top t j).segment
         up e =
@@ -199,13 +192,13 @@ module _ (w : s.Workload) (js : List Journal) (ps : List Packet) (b : BookState)
             let a : length (j.left ++ newest_of w t j ∷ []) ≡ length j.left + 1 = length_push j.left (newest_of w t j) in
             let c : length (segments j.left ++ j.site.segment ∷ []) ≡ length (segments j.left) + 1 = length_push (segments j.left) j.site.segment in
             let d : length (segments j.left) ≡ length j.left = length-map j.left (λ (l : Left). l.segment) in
-            get_past (segments j.left ++ j.site.segment ∷ []) top [] (get_none (segments j.left ++ j.site.segment ∷ []) top (omega (arith, all, a, c, d)))
+            get_past (segments j.left ++ j.site.segment ∷ []) top [] (slice_get_past (segments j.left ++ j.site.segment ∷ []) top (omega (arith, all, a, c, d)))
             ∙ ap (λ (x : Journal). x.site.segment) (sym (up_behind w top t j other))
 
     is_then : IsThen top j (site_then w top t j)
     unfolding definitions site_definitions
     is_then = record {
-      then = ⊎_elim (λ e. inl (e, ap (λ (x : Journal). x.site) (up_here w top t j e))) (λ other. inr (other, (_, ap (λ (x : Journal). x.site.deltas) (up_behind w top t j other)))) (same_or_not j.site.round top);
+      then = ⊎_elim (λ e. inl (e, ap (λ (x : Journal). x.site) (up_here w top t j e))) (λ other. inr (other, (_, ap (λ (x : Journal). x.site.deltas) (up_behind w top t j other)))) (cases_eq j.site.round top);
     }
 
   closed_segments : (r n : ℕ) (q : Round) → n ≡ 0 + r → slice_get b.closed r ≡ Some q → map (ran_in n) js ≡ q.segments
@@ -219,7 +212,7 @@ module _ (w : s.Workload) (js : List Journal) (ps : List Packet) (b : BookState)
   unfolding core_definitions
   open_segments =
       map_same (ran_in top) (λ j. (site_then w top t j).segment) js ran_last
-      ∙ sym (map_map (λ (x : SiteState). x.segment) (site_then w top t) js)
+      ∙ sym (map-map (λ (x : SiteState). x.segment) (site_then w top t) js)
 
   -- by any node in the last round
   module _ (k : ℕ) (j : Journal) (here : slice_get js k ≡ Some j) (up : j.site.round ≡ top) where
@@ -249,21 +242,21 @@ module _ (w : s.Workload) (js : List Journal) (ps : List Packet) (b : BookState)
   pub read_is : history_of js ≡ core.history_of b sites
   unfolding definitions
   read_is =
-      let f = found is_last js course.place course.first course.there (test_true course.first.site.round (last_round js) (course.here ∙ sym last_is)) in
+      let f = found is_last js course.place course.first course.there (eq-eqb course.first.site.round (last_round js) (course.here ∙ sym last_is)) in
       ap (λ o. option_map_or (history_by js) o (record { rounds = []; last = [] })) f.is
-      ∙ history_is f.place f.item f.here (is_true f.item.site.round (last_round js) f.passes ∙ last_is)
+      ∙ history_is f.place f.item f.here (eqb-true f.item.site.round (last_round js) f.passes ∙ last_is)
 
   -- ---- what the first nodes add to the base of the last round is what the first sites add
   pub first_then : (m : ℕ) → gathered b.base (last_sites top (take m js)) ≡ gathered b.base (take m sites)
   first_then m =
-      gathered_then top (site_then w top t) b.base (take m js) (λ i j e. is_then i j (take_is js m i j e))
+      gathered_then top (site_then w top t) b.base (take m js) (λ i j e. is_then i j (get_take js m i j e))
       ∙ ap (gathered b.base) (sym (take-map (site_then w top t) m js))
 
   -- ---- as many calls of each client as stand there
   pub counts_are : counts ≡ counts_in w (rounds_of b sites)
   unfolding definitions
   counts_are =
-      same_list counts (counts_in w (rounds_of b sites)) (course.ordered.clients ∙ sym (length-map (range_with_len 0 (length w.clients)) count_of ∙ length_range 0 (length w.clients))) at
+      same_list counts (counts_in w (rounds_of b sites)) (course.ordered.clients ∙ sym (length-map (range_with_len 0 (length w.clients)) count_of ∙ length-range_with_len 0 (length w.clients))) at
     where
       count_of : ℕ → ℕ
       count_of client = length (numbers_of client (calls_of (rounds_of b sites)))
@@ -273,7 +266,7 @@ module _ (w : s.Workload) (js : List Journal) (ps : List Packet) (b : BookState)
           let was = get_map_back count_of (range_with_len 0 (length w.clients)) i y f in
           let h = range_at 0 (length w.clients) i was.0 was.1.0 in
           let same : i ≡ was.0 = omega (arith, h.is) in
-          sym (get_index counts i x 0 e) ∙ sym (length_range 1 (slice_index_or counts i 0)) ∙ ap length (sym (course.ordered.numbers i)) ∙ ap count_of same ∙ was.1.1
+          sym (get_index counts i x 0 e) ∙ sym (length-range_with_len 1 (slice_index_or counts i 0)) ∙ ap length (sym (course.ordered.numbers i)) ∙ ap count_of same ∙ was.1.1
 
   -- ---- the bases of nodes that are behind
   pub base_behind : (i : ℕ) (j : Journal) (q : Round) → slice_get js i ≡ Some j → suc j.site.round ≡ top → slice_get b.closed j.site.round ≡ Some q → j.site.base ≡ q.base

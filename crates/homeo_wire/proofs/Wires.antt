@@ -8,8 +8,11 @@ use Rattle.std.specs.Int.{w64}
 use Rattle.std.specs.Prelude.{All, slice_get, ◌&&◌, ◌==◌, IfOk, OnOk, OnErr}
 use Rattle.std.proofs.lemmas.Bool.Decides.{nat_tests}
 use Rattle.std.proofs.lemmas.List.{length-map}
-use Rattle.std.proofs.lemmas.Option.{slice_get_read}
+use Rattle.std.proofs.lemmas.Option.{slice_get_read, slice_get_within}
+use Rattle.std.proofs.lemmas.Simd.{map-map}
+use Rattle.std.proofs.lemmas.Bool.{eq-eqb, eqb-true}
 use mathlib.Core.Logic.{⊎_elim}
+use Rattle.homeo_lemmas.proofs.Places.{All-get, get_map, map_set}
 use Rattle.homeo_syntax.specs.Source as s
 use Rattle.homeo_syntax.specs.SourceView.{plain_workload}
 use Rattle.homeo_syntax.specs.declared.workload.Workload.{Workload}
@@ -24,7 +27,7 @@ use Rattle.homeo_history.proofs.Exists.{client_lt}
 use Rattle.homeo_assembly.proofs.ClientsAtSites.{client_below}
 use Rattle.homeo_syntax.specs.Listed.{Listed}
 use Rattle.homeo_plan.specs.declared.treaty.Broken.{Broken}
-use Rattle.homeo_history.proofs.Lists.{All-get, get_lt, get_map, map_map, index_set_same, index_set_other}
+use Rattle.homeo_history.proofs.Lists.{index_set_same, index_set_other}
 use Rattle.homeo_history.specs.History.{History}
 use Rattle.homeo_site.specs.SiteState.{SiteState, step_finding}
 use Rattle.homeo_core.specs.Joined.{gathered}
@@ -49,7 +52,7 @@ use Rattle.homeo_wire.specs.WireView.{WireValue, plain_packet, plain_step, plain
 use Rattle.homeo_wire.proofs.Courses.{caught_up, up_here, up_behind, sites_then}
 use Rattle.homeo_wire.proofs.Happening.{IsHeld}
 use Rattle.homeo_wire.proofs.NodeViews.{idle_is, received_other, received_own}
-use Rattle.homeo_wire.proofs.Places.{map_set, map_set_same, test_true, is_true}
+use Rattle.homeo_wire.proofs.Places.{map_set_same}
 use Rattle.homeo_wire.proofs.Reading.{read_is, counts_are, last_is, first_then, base_up}
 use Rattle.homeo_wire.proofs.Ready.{ready, can_take}
 use Rattle.homeo_wire.proofs.Sending.{Sent, sent_at}
@@ -131,7 +134,7 @@ module _ (work : Workload) (nodes : List Node) (packets : List Packet) (wire : I
   is_from (n.Stop b) sent = tt
   is_from (n.State r k d) sent =
       let since = held.talk.packets (n.State r k d) sent in
-      subst (λ m. k < m) held.talk.count (get_lt x.nodes k since.node since.here)
+      subst (λ m. k < m) held.talk.count (slice_get_within x.nodes k since.node since.here)
 
   pub from_at : (k : ℕ) (p : Packet) → slice_get packets k ≡ Some p → IsFrom (sites_of w) (plain_packet p)
   unfolding definitions
@@ -248,16 +251,16 @@ module _ (w : s.Workload) (x : n.World) (accepted : IsAccepted w) (h : IsHeld w 
 
       closed_at : (t u : Bool) → (b.site == m.journal.site.number) ≡ t → (b.call.client == client) ≡ u → cond u b.call.seq (slice_index_or made client 0) ≡ slice_index_or (cond t (slice_set made b.call.client b.call.seq) made) client 0
       closed_at true true e f =
-          let same = is_true b.call.client client f in
+          let same = eqb-true b.call.client client f in
           sym (ap (λ k. slice_index_or (slice_set made k b.call.seq) client 0) same ∙ index_set_same made client b.call.seq 0 (subst (λ k. client < k) (sym many) (client_lt w home client own)))
       closed_at true false e f = sym (index_set_other made b.call.client client b.call.seq 0 (λ same. not_both (sym same) f))
         where
           not_both : b.call.client ≡ client → (b.call.client == client) ≡ false → ⊥
-          not_both same f = let g : eqb b.call.client client ≡ true = test_true b.call.client client same in cc
-      closed_at false true e f = absurd (let same = is_true b.call.client client f in
+          not_both same f = let g : eqb b.call.client client ≡ true = eq-eqb b.call.client client same in cc
+      closed_at false true e f = absurd (let same = eqb-true b.call.client client f in
           let site : b.site ≡ home = one_site w client b.site home (subst (IsClientAt w b.site) same at_site) own in
           let is : b.site ≡ m.journal.site.number = site ∙ sym (h.talk.nodes home m here).numbered in
-          let g : eqb b.site m.journal.site.number ≡ true = test_true b.site m.journal.site.number is in
+          let g : eqb b.site m.journal.site.number ≡ true = eq-eqb b.site m.journal.site.number is in
           let never : ⊥ = cc in
           never)
       closed_at false false e f = refl
@@ -319,7 +322,7 @@ module _ (w : s.Workload) (x : n.World) (accepted : IsAccepted w) (h : IsHeld w 
 module _ (work : Workload) (nodes : List Node) (packets : List Packet) (wire : IsWire work nodes packets) where
   pub journals_here : journals (world_of nodes packets) ≡ map plain_journal nodes
   unfolding definitions
-  journals_here = map_map (λ (m : n.Node). m.journal) plain_node nodes
+  journals_here = map-map (λ (m : n.Node). m.journal) plain_node nodes
 
   own_at : (i : ℕ) (y : Node) → slice_get nodes i ≡ Some y → IsOwn y
   unfolding definitions

@@ -2,12 +2,12 @@ use Rattle.homeo_syntax.specs.Key.{definitions as syntax_definitions}
 use Rattle.homeo_wire.specs.Key.{definitions}
 use Rattle.std.proofs.Common.{◌≡◌, ◌<◌, ◌+◌, ◌-◌, length, take, get_or, Some, sym, ap, ◌∙◌, arith}
 use Rattle.std.specs.Prelude.{slice_get, option_map}
+use Rattle.homeo_lemmas.proofs.Places.{get_read}
 use Rattle.homeo_syntax.specs.Source as s
 use Rattle.homeo_syntax.specs.SourceView.{plain_workload}
 use Rattle.homeo_syntax.specs.declared.workload.Call.{Call as CallText}
 use Rattle.homeo_wire.specs.Drive.{calls_in}
 use Rattle.homeo_wire.proofs.Driving.{calls_of, calls_next, calls_none, calls_all, call_among}
-use Rattle.homeo_wire.proofs.StateLists.{get_read}
 use Rattle.homeo_wire.proofs.driver.count_calls.Goals as goal
 
 pub loop-client-init : goal.loop-client-init

@@ -2,11 +2,11 @@ use Rattle.homeo_history.specs.Key.{definitions as history_definitions}
 use Rattle.homeo_wire.specs.Key.{definitions}
 use Rattle.std.proofs.Common.{[], ◌∷◌, ◌++◌, Some, map, sym, ap, ◌∙◌}
 use Rattle.std.proofs.lemmas.List.{map-append}
+use Rattle.homeo_lemmas.proofs.Lists.{take_past}
 use Rattle.homeo_history.specs.HistoryView.{plain_round}
 use Rattle.homeo_wire.specs.Read.{rounds_left}
 use Rattle.homeo_wire.specs.WireView.{plain_left, plain_journal}
 use Rattle.homeo_wire.proofs.Histories.{left_next, left_none}
-use Rattle.homeo_wire.proofs.StateLists.{take_past}
 use Rattle.homeo_wire.proofs.history.rounds_left.Goals as goal
 
 pub loop-i-init : goal.loop-i-init

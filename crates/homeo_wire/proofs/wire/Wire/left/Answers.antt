@@ -1,9 +1,9 @@
 use Rattle.homeo_wire.specs.Key.{definitions}
 use Rattle.std.proofs.Common.{◌≡◌, ℕ, ◌<◌, ◌≤◌, ◌+◌, ◌-◌, length, map, get_or, sym, ap, subst, ◌∙◌, arith, slice_index_or}
+use Rattle.homeo_lemmas.proofs.Places.{get_map}
 use Rattle.homeo_syntax.specs.SourceView.{plain_workload}
 use Rattle.homeo_syntax.specs.declared.workload.Workload.{Workload}
 use Rattle.homeo_history.specs.Legal.{IsClientAt, call_count}
-use Rattle.homeo_history.proofs.Lists.{get_map}
 use Rattle.homeo_wire.specs.inner.Ready.{counted_by}
 use Rattle.homeo_wire.specs.Read.{last_round, history_in, counts_in}
 use Rattle.homeo_wire.specs.WireView.{WireValue, plain_journal, plain_node, world_of}
