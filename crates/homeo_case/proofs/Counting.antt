@@ -3,14 +3,15 @@ use Rattle.homeo_history.specs.Key.{definitions as history_definitions}
 use Rattle.std.proofs.Common.{◌≡◌, ℕ, zero, suc, ◌+◌, ◌-◌, ◌<◌, List, [], ◌∷◌, ◌++◌, length, take, drop, replicate, refl, sym, ap, subst, ◌∙◌, arith, slice_set, slice_index_or}
 use Rattle.std.specs.List.{range_with_len}
 use Rattle.std.proofs.lemmas.List.{append-nil, length-replicate}
+use Rattle.std.proofs.lemmas.Bool.{cases_eq}
 use mathlib.Core.Logic.{⊎_elim}
+use Rattle.homeo_lemmas.proofs.Lists.{range_more}
 use Rattle.homeo_syntax.specs.Source as s
 use Rattle.homeo_meaning.specs.declared.call.CallId.{CallId}
 use Rattle.homeo_history.specs.Legal.{numbers_of}
-use Rattle.homeo_history.proofs.Lists.{index_set_same, index_set_other, length_set, range_more}
+use Rattle.homeo_history.proofs.Lists.{index_set_same, index_set_other, length_set}
 use Rattle.homeo_nodes.specs.Nodes.{Node}
 use Rattle.homeo_nodes.proofs.Ordered.{numbers_own, numbers_other, numbers_append, zeros_at}
-use Rattle.homeo_nodes.proofs.Places.{same_or_not}
 use Rattle.homeo_nodes.proofs.Withdrawing.{less_asked}
 
 -- the call is its client's next
@@ -47,7 +48,7 @@ first_taken (suc k) (c ∷ queue) call rest e =
 -- ---- one call more is made
 pub more_numbers : (made : List ℕ) (done : List CallId) (call : CallId) → ((client : ℕ) → numbers_of client done ≡ range_with_len 1 (slice_index_or made client 0)) → call.seq ≡ suc (slice_index_or made call.client 0) → call.client < length made → (client : ℕ) → numbers_of client (done ++ call ∷ []) ≡ range_with_len 1 (slice_index_or (slice_set made call.client call.seq) client 0)
 unfolding history_definitions
-more_numbers made done call numbers seq below client = numbers_append client done (call ∷ []) ∙ ⊎_elim own other (same_or_not call.client client)
+more_numbers made done call numbers seq below client = numbers_append client done (call ∷ []) ∙ ⊎_elim own other (cases_eq call.client client)
   where
     own : call.client ≡ client → numbers_of client done ++ numbers_of client (call ∷ []) ≡ range_with_len 1 (slice_index_or (slice_set made call.client call.seq) client 0)
     own e =

@@ -3,9 +3,10 @@ use Rattle.homeo_nodes.specs.Key.{definitions as node_definitions}
 use Rattle.std.proofs.Common.{◌≡◌, ℕ, zero, suc, ◌<◌, arith, List, [], ◌∷◌, ◌++◌, length, take, drop, Bool, true, false, cond, ℤ, Option, Some, None, refl, sym, ap, subst, ◌∙◌, slice_index_or}
 use Rattle.std.specs.Prelude.{slice_get, ◌==◌, ◌⊎◌}
 use mathlib.Core.Logic.{⊎_elim}
+use Rattle.homeo_lemmas.proofs.Places.{one_placed}
 use Rattle.homeo_syntax.specs.Source as s
 use Rattle.homeo_meaning.specs.declared.call.CallId.{CallId}
-use Rattle.homeo_history.proofs.Lists.{get_index, get_past, get_same}
+use Rattle.homeo_history.proofs.Lists.{get_index, get_past}
 use Rattle.homeo_nodes.specs.declared.breach.Breach.{Breach}
 use Rattle.homeo_nodes.specs.declared.breach.Mode.TheVariants.{Stopped}
 use Rattle.homeo_nodes.specs.Nodes.{Said, Packet, Want, Stop, State, Node, is_running, rest_of, calls_at, all_of, still_waits}
@@ -98,7 +99,7 @@ module _ (w : s.Workload) (ns : List Node) (ps : List Packet) (holds : Holds w n
   own_first own =
       let h = hears.stopped u stop in
       let since : Since ns u.site u.round (Wants w u) = (holds.talk.packets (Want u) (holds.talk.packets (Stop u) h.0).0).1 in
-      let same : since.node ≡ m = get_same ns i since.node m (subst (λ k. slice_get ns k ≡ Some since.node) (sym own ∙ hears.numbered) since.here) here in
+      let same : since.node ≡ m = one_placed ns i since.node m (subst (λ k. slice_get ns k ≡ Some since.node) (sym own ∙ hears.numbered) since.here) here in
       let now : (u.round < m.journal.site.round) ⊎ ((m.journal.site.round ≡ u.round) × Wants w u m) =
       subst (λ (y : Node). (u.round < y.journal.site.round) ⊎ ((y.journal.site.round ≡ u.round) × Wants w u y)) same since.since in
       let wants : Wants w u m = ⊎_elim (λ lt. let e = h.1 in absurd (omega (arith, lt, e))) (λ p. p.1) now in

@@ -5,6 +5,7 @@ use Rattle.homeo_wire.specs.Key.{definitions as wire_definitions}
 use Rattle.std.proofs.Common.{◌≡◌, ℕ, zero, suc, List, [], ◌∷◌, ◌++◌, map, drop, replicate, Bool, true, false, cond, ℤ, Option, Some, None, refl, sym, ap, subst, ◌∙◌, slice_set, slice_index_or}
 use Rattle.std.specs.Prelude.{slice_get, is_some, not, option_map, ◌&&◌, ◌==◌, ◌%◌}
 use Rattle.std.proofs.lemmas.List.{append-nil, map-append}
+use Rattle.std.proofs.lemmas.Bool.{cases_eq, eq-eqb, ne_eqb, cond-true, cond-false, eqb-true}
 use mathlib.Core.Logic.{⊎_elim}
 use Rattle.homeo_syntax.specs.Source as s
 use Rattle.homeo_meaning.specs.declared.call.CallId.{CallId}
@@ -20,7 +21,7 @@ use Rattle.homeo_nodes.specs.declared.breach.Breach.{Breach}
 use Rattle.homeo_nodes.specs.declared.breach.Mode.{Mode}
 use Rattle.homeo_nodes.specs.declared.breach.Mode.TheVariants.{Running, Waiting, Stopped}
 use Rattle.homeo_nodes.specs.Nodes as n
-use Rattle.homeo_nodes.proofs.Places.{same_or_not, test_true, test_false, cond_true, cond_false, is_true, map_set}
+use Rattle.homeo_nodes.proofs.Places.{map_set}
 use Rattle.homeo_nodes.proofs.Plain.{plain_closes}
 use Rattle.homeo_nodes.proofs.Reacting.{keep_holds}
 use Rattle.homeo_nodes.proofs.Sending.{Sent, sent_left, sent_one}
@@ -199,18 +200,18 @@ module _ (w : s.Workload) (ns : List n.Node) (ps : List n.Packet) (holds : Holds
     queue_then = none_waits
 
     counted_then : IsCounted w made_then node'
-    counted_then = ⊎_elim at_home away (same_or_not u.site m.journal.site.number)
+    counted_then = ⊎_elim at_home away (cases_eq u.site m.journal.site.number)
       where
         at_home : u.site ≡ m.journal.site.number → IsCounted w made_then node'
         at_home e =
             let first = own_first w ns ps holds plain i m here u all stop states (sym e) in
-            subst (λ ks. IsCounted w ks node') (sym (cond_true (u.site == m.journal.site.number) (slice_set made u.call.client u.call.seq) made (test_true u.site m.journal.site.number e))) (closing_counted w made m node' counted u.call first.0 first.1 asked_then queue_then)
+            subst (λ ks. IsCounted w ks node') (sym (cond-true (u.site == m.journal.site.number) (slice_set made u.call.client u.call.seq) made (eq-eqb u.site m.journal.site.number e))) (closing_counted w made m node' counted u.call first.0 first.1 asked_then queue_then)
 
         away : (u.site ≡ m.journal.site.number → ⊥) → IsCounted w made_then node'
         away d =
-            let count : own_count m u ≡ 0 = cond_false (m.journal.site.number == u.site) 1 0 (test_false m.journal.site.number u.site (λ e. d (sym e))) in
+            let count : own_count m u ≡ 0 = cond-false (m.journal.site.number == u.site) 1 0 (ne_eqb m.journal.site.number u.site (λ e. d (sym e))) in
             let none : m.queue ≡ [] = sym (drop_none m.queue) ∙ ap (λ k. drop k m.queue) (sym count) ∙ own.stopped u stop in
-            subst (λ ks. IsCounted w ks node') (sym (cond_false (u.site == m.journal.site.number) (slice_set made u.call.client u.call.seq) made (test_false u.site m.journal.site.number d))) (same_counted w made m node' counted asked_then (queue_then ∙ sym none))
+            subst (λ ks. IsCounted w ks node') (sym (cond-false (u.site == m.journal.site.number) (slice_set made u.call.client u.call.seq) made (ne_eqb u.site m.journal.site.number d))) (same_counted w made m node' counted asked_then (queue_then ∙ sym none))
 
     closes : Settles w (d.settled_by w v (wired_mode (Stopped u)) (option_map deltas (Some all))) (n.settled_by w m (Stopped u) (Some all))
     unfolding node_definitions wire_definitions
@@ -328,7 +329,7 @@ module _ (w : s.Workload) (ns : List n.Node) (ps : List n.Packet) (accepted : Is
   comes_state : (r k : ℕ) (said : n.Said) → Sent ps (n.State r k said) → (t : Bool) → (r == m.journal.site.round) ≡ t → Agrees w ps (cond t (d.taken w of_wire (d.State r k said.deltas)) (d.stays of_wire d.Ignored)) (cond t (n.taken w m (n.State r k said)) (n.stays m n.Ignored))
   unfolding node_definitions wire_definitions
   comes_state r k said sent true e =
-      subst (λ t. Agrees w ps (cond t (d.stays of_wire d.Ignored) (record { node = d.settled w (d.keeping of_wire k said.deltas); sends = []; step = d.Taken })) (n.taken w m (n.State r k said))) (sym (has_same m.states k)) (state_agrees k said (subst (λ a. Sent ps (n.State a k said)) (is_true r m.journal.site.round e) sent) (n.has_state m.states k))
+      subst (λ t. Agrees w ps (cond t (d.stays of_wire d.Ignored) (record { node = d.settled w (d.keeping of_wire k said.deltas); sends = []; step = d.Taken })) (n.taken w m (n.State r k said))) (sym (has_same m.states k)) (state_agrees k said (subst (λ a. Sent ps (n.State a k said)) (eqb-true r m.journal.site.round e) sent) (n.has_state m.states k))
   comes_state r k said sent false e = idle d.Ignored n.Ignored
 
   module _ (b : Breach) (sent : Sent ps (n.Stop b)) where
@@ -339,29 +340,29 @@ module _ (w : s.Workload) (ns : List n.Node) (ps : List n.Packet) (accepted : Is
     taken_is : (b.round == m.journal.site.round) ≡ true → n.is_stopped m.mode ≡ false → n.received w (n.Stop b) (n.withdrawing m b) ≡ record { node = n.settled w (n.stopped (n.withdrawing m b) b); sends = n.State m.journal.site.round m.journal.site.number (n.said_by (n.withdrawing m b)) ∷ []; step = n.closing_step w (n.stopped (n.withdrawing m b) b) }
     unfolding node_definitions
     taken_is same free =
-        cond_true (b.round == m.journal.site.round) (n.taken w (n.withdrawing m b) (n.Stop b)) (n.stays (n.withdrawing m b) n.Ignored) same
-        ∙ cond_false (n.is_stopped m.mode) (n.stays (n.withdrawing m b) n.Ignored) (record { node = n.settled w (n.stopped (n.withdrawing m b) b); sends = n.State m.journal.site.round m.journal.site.number (n.said_by (n.withdrawing m b)) ∷ []; step = n.closing_step w (n.stopped (n.withdrawing m b) b) }) free
+        cond-true (b.round == m.journal.site.round) (n.taken w (n.withdrawing m b) (n.Stop b)) (n.stays (n.withdrawing m b) n.Ignored) same
+        ∙ cond-false (n.is_stopped m.mode) (n.stays (n.withdrawing m b) n.Ignored) (record { node = n.settled w (n.stopped (n.withdrawing m b) b); sends = n.State m.journal.site.round m.journal.site.number (n.said_by (n.withdrawing m b)) ∷ []; step = n.closing_step w (n.stopped (n.withdrawing m b) b) }) free
 
     again_is : n.is_stopped m.mode ≡ true → n.taken w m (n.Stop b) ≡ n.stays m n.Ignored
     unfolding node_definitions
     again_is stopped =
-        cond_true (n.is_stopped m.mode) (n.stays m n.Ignored) (record { node = n.settled w (n.stopped m b); sends = n.State m.journal.site.round m.journal.site.number (n.said_by m) ∷ []; step = n.closing_step w (n.stopped m b) }) stopped
+        cond-true (n.is_stopped m.mode) (n.stays m n.Ignored) (record { node = n.settled w (n.stopped m b); sends = n.State m.journal.site.round m.journal.site.number (n.said_by m) ∷ []; step = n.closing_step w (n.stopped m b) }) stopped
 
     ignored_is : (t : Bool) → (b.round == m.journal.site.round) ≡ t → (n.taken w m (n.Stop b) ≡ n.stays m n.Ignored) → n.received w (n.Stop b) m ≡ n.stays m n.Ignored
     unfolding node_definitions
     ignored_is true e again =
-        cond_true (b.round == m.journal.site.round) (n.taken w m (n.Stop b)) (n.stays m n.Ignored) e ∙ again
-    ignored_is false e again = cond_false (b.round == m.journal.site.round) (n.taken w m (n.Stop b)) (n.stays m n.Ignored) e
+        cond-true (b.round == m.journal.site.round) (n.taken w m (n.Stop b)) (n.stays m n.Ignored) e ∙ again
+    ignored_is false e again = cond-false (b.round == m.journal.site.round) (n.taken w m (n.Stop b)) (n.stays m n.Ignored) e
 
     other_is : (b.round == m.journal.site.round) ≡ false → n.received w (n.Stop b) m ≡ n.stays m n.Ignored
     unfolding node_definitions
-    other_is e = cond_false (b.round == m.journal.site.round) (n.taken w m (n.Stop b)) (n.stays m n.Ignored) e
+    other_is e = cond-false (b.round == m.journal.site.round) (n.taken w m (n.Stop b)) (n.stays m n.Ignored) e
 
     comes_stop : (t u : Bool) → (b.round == m.journal.site.round) ≡ t → n.is_stopped m.mode ≡ u → Agrees w ps (cond t (cond u (d.stays of_wire d.Ignored) dstop) (d.stays of_wire d.Ignored)) (n.received w (n.Stop b) (cond (t && not u) (n.withdrawing m b) m))
     comes_stop true true e f =
         subst (Agrees w ps (d.stays of_wire d.Ignored)) (sym (ignored_is true e (again_is f))) (idle d.Ignored n.Ignored)
     comes_stop true false e f =
-        subst (Agrees w ps dstop) (sym (taken_is e f)) (stop_agrees b sent (is_true b.round m.journal.site.round e) (λ g. let h : true ≡ false = sym g ∙ f in cc))
+        subst (Agrees w ps dstop) (sym (taken_is e f)) (stop_agrees b sent (eqb-true b.round m.journal.site.round e) (λ g. let h : true ≡ false = sym g ∙ f in cc))
     comes_stop false true e f = subst (Agrees w ps (d.stays of_wire d.Ignored)) (sym (other_is e)) (idle d.Ignored n.Ignored)
     comes_stop false false e f = subst (Agrees w ps (d.stays of_wire d.Ignored)) (sym (other_is e)) (idle d.Ignored n.Ignored)
 

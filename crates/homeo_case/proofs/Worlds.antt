@@ -7,21 +7,24 @@ use Rattle.std.specs.Prelude.{slice_get, option_map, ◌&&◌}
 use Rattle.std.specs.List.{range_with_len}
 use Rattle.std.proofs.lemmas.Bool.Decides.{nat_tests}
 use Rattle.std.proofs.lemmas.List.{append-nil, map-append, length-map}
+use Rattle.std.proofs.lemmas.Option.{slice_get-map, slice_get_within}
+use Rattle.std.proofs.lemmas.Bool.{cases_eq, cond-true}
 use mathlib.Core.Logic.{⊎_elim}
+use Rattle.homeo_lemmas.proofs.Places.{one_placed, set_itself}
 use Rattle.homeo_syntax.specs.Source as s
 use Rattle.homeo_meaning.specs.declared.call.CallId.{CallId}
 use Rattle.homeo_meaning.specs.Acceptance.{IsAccepted}
 use Rattle.homeo_plan.specs.Planned.{sites_of}
 use Rattle.homeo_history.specs.Legal.{IsClientAt, client_site, call_count}
 use Rattle.homeo_history.proofs.Exists.{client_lt}
-use Rattle.homeo_history.proofs.Lists.{get_lt, get_some, get_same, get_set_same, get_set_other, length_set, get_map_back}
+use Rattle.homeo_history.proofs.Lists.{get_some, get_set_same, get_set_other, length_set, get_map_back}
 use Rattle.homeo_site.specs.SiteState.{step_finding}
 use Rattle.homeo_nodes.specs.declared.breach.Mode.TheVariants.{Running, Stopped}
 use Rattle.homeo_nodes.specs.Nodes as n
 use Rattle.homeo_nodes.proofs.Happening.{IsHeld, events_hold}
 use Rattle.homeo_nodes.specs.Ordered.{AskedInOrder}
 use Rattle.homeo_nodes.proofs.Ordered.{legal_where_ordered}
-use Rattle.homeo_nodes.proofs.Places.{same_or_not, set_itself, set_twice, cond_true}
+use Rattle.homeo_nodes.proofs.Places.{set_twice}
 use Rattle.homeo_nodes.proofs.Sending.{sent_at}
 use Rattle.homeo_nodes.proofs.Starting.{start_holds}
 use Rattle.homeo_wire.specs.declared.events.Event.{Event}
@@ -48,29 +51,29 @@ wire_then x i r = record { nodes = slice_set x.nodes i r.node; packets = x.packe
 -- ---- one node reacts in each
 module _ (w : s.Workload) (x : d.World) (y : n.World) (h : Meets w x y) (i : ℕ) (v : d.Node) (m : n.Node) (there : slice_get x.nodes i ≡ Some v) (here : slice_get y.nodes i ≡ Some m) (r : d.Reaction) (q : n.Reaction) (agree : Agrees w y.packets r q) where
   wired_at : (k : ℕ) (a : d.Node) (b : n.Node) → slice_get (slice_set x.nodes i r.node) k ≡ Some a → slice_get (slice_set y.nodes i q.node) k ≡ Some b → IsWired a b
-  wired_at k a b e f = ⊎_elim own (λ other. h.are.nodes k a b (sym (get_set_other x.nodes i k r.node other) ∙ e) (sym (get_set_other y.nodes i k q.node other) ∙ f)) (same_or_not k i)
+  wired_at k a b e f = ⊎_elim own (λ other. h.are.nodes k a b (sym (get_set_other x.nodes i k r.node other) ∙ e) (sym (get_set_other y.nodes i k q.node other) ∙ f)) (cases_eq k i)
     where
       own : k ≡ i → IsWired a b
       own same =
-          let is : r.node ≡ a = get_same (slice_set x.nodes i r.node) i r.node a (get_set_same x.nodes i v r.node there) (subst (λ j. slice_get (slice_set x.nodes i r.node) j ≡ Some a) same e) in
-          let is' : q.node ≡ b = get_same (slice_set y.nodes i q.node) i q.node b (get_set_same y.nodes i m q.node here) (subst (λ j. slice_get (slice_set y.nodes i q.node) j ≡ Some b) same f) in
+          let is : r.node ≡ a = one_placed (slice_set x.nodes i r.node) i r.node a (get_set_same x.nodes i v r.node there) (subst (λ j. slice_get (slice_set x.nodes i r.node) j ≡ Some a) same e) in
+          let is' : q.node ≡ b = one_placed (slice_set y.nodes i q.node) i q.node b (get_set_same y.nodes i m q.node here) (subst (λ j. slice_get (slice_set y.nodes i q.node) j ≡ Some b) same f) in
           subst (λ z. IsWired z b) is (subst (IsWired r.node) is' agree.node)
 
   counted_at : (k : ℕ) (a : d.Node) (b : n.Node) → slice_get (slice_set x.nodes i r.node) k ≡ Some a → slice_get (slice_set y.nodes i q.node) k ≡ Some b → IsCounted w a.journal.made b
-  counted_at k a b e f = ⊎_elim own (λ other. h.counted k a b (sym (get_set_other x.nodes i k r.node other) ∙ e) (sym (get_set_other y.nodes i k q.node other) ∙ f)) (same_or_not k i)
+  counted_at k a b e f = ⊎_elim own (λ other. h.counted k a b (sym (get_set_other x.nodes i k r.node other) ∙ e) (sym (get_set_other y.nodes i k q.node other) ∙ f)) (cases_eq k i)
     where
       own : k ≡ i → IsCounted w a.journal.made b
       own same =
-          let is : r.node ≡ a = get_same (slice_set x.nodes i r.node) i r.node a (get_set_same x.nodes i v r.node there) (subst (λ j. slice_get (slice_set x.nodes i r.node) j ≡ Some a) same e) in
-          let is' : q.node ≡ b = get_same (slice_set y.nodes i q.node) i q.node b (get_set_same y.nodes i m q.node here) (subst (λ j. slice_get (slice_set y.nodes i q.node) j ≡ Some b) same f) in
+          let is : r.node ≡ a = one_placed (slice_set x.nodes i r.node) i r.node a (get_set_same x.nodes i v r.node there) (subst (λ j. slice_get (slice_set x.nodes i r.node) j ≡ Some a) same e) in
+          let is' : q.node ≡ b = one_placed (slice_set y.nodes i q.node) i q.node b (get_set_same y.nodes i m q.node here) (subst (λ j. slice_get (slice_set y.nodes i q.node) j ≡ Some b) same f) in
           subst (λ (z : d.Node). IsCounted w z.journal.made b) is (subst (IsCounted w r.node.journal.made) is' agree.counted)
 
   own_at : (k : ℕ) (b : n.Node) → slice_get (slice_set y.nodes i q.node) k ≡ Some b → IsPlainNode b
-  own_at k b f = ⊎_elim own (λ other. h.own k b (sym (get_set_other y.nodes i k q.node other) ∙ f)) (same_or_not k i)
+  own_at k b f = ⊎_elim own (λ other. h.own k b (sym (get_set_other y.nodes i k q.node other) ∙ f)) (cases_eq k i)
     where
       own : k ≡ i → IsPlainNode b
       own same =
-          subst IsPlainNode (get_same (slice_set y.nodes i q.node) i q.node b (get_set_same y.nodes i m q.node here) (subst (λ j. slice_get (slice_set y.nodes i q.node) j ≡ Some b) same f)) agree.own
+          subst IsPlainNode (one_placed (slice_set y.nodes i q.node) i q.node b (get_set_same y.nodes i m q.node here) (subst (λ j. slice_get (slice_set y.nodes i q.node) j ≡ Some b) same f)) agree.own
 
   reacted : IsHeld w (then y i q) → Meets w (wire_then x i r) (then y i q)
   reacted held = record {
@@ -101,7 +104,7 @@ held_then : (w : s.Workload) (y z : n.World) (es : List n.Event) → IsAccepted 
 held_then w y z es accepted held is = subst (IsHeld w) is (events_hold w es y accepted held)
 
 found : (x : d.World) (y : n.World) (i : ℕ) (v : d.Node) → AreWired x y → slice_get x.nodes i ≡ Some v → (m : n.Node) × (slice_get y.nodes i ≡ Some m)
-found x y i v h e = get_some y.nodes i (subst (λ k. i < k) h.count (get_lt x.nodes i v e))
+found x y i v h e = get_some y.nodes i (subst (λ k. i < k) h.count (slice_get_within x.nodes i v e))
 
 -- ---- a call
 is_client_at : (w : s.Workload) (site client : ℕ) → client_site w client ≡ Some site → IsClientAt w site client
@@ -150,7 +153,7 @@ module _ (w : s.Workload) (accepted : IsAccepted w) (x : d.World) (y : n.World) 
     asked_is : n.asked call m ≡ record { node = m1; sends = []; step = n.Queued }
     unfolding node_definitions
     asked_is =
-        cond_true (nat_lt (length m.queue) 64) (record { node = m1; sends = []; step = n.Queued }) (n.stays m n.Held) (ap (λ q. nat_lt (length q) 64) idle)
+        cond-true (nat_lt (length m.queue) 64) (record { node = m1; sends = []; step = n.Queued }) (n.stays m n.Held) (ap (λ q. nat_lt (length q) 64) idle)
 
     place_is : n.place_of w y (n.Ask call) ≡ Some (record { site = home; input = n.Asked call })
     unfolding node_definitions
@@ -171,7 +174,7 @@ module _ (w : s.Workload) (accepted : IsAccepted w) (x : d.World) (y : n.World) 
     served_is : n.served w m1 ≡ q
     unfolding node_definitions
     served_is =
-        cond_true (n.is_running m.mode) (n.served_by w m1 m1.queue) (n.stays m1 n.Held) running ∙ ap (n.served_by w m1) queue_is
+        cond-true (n.is_running m.mode) (n.served_by w m1 m1.queue) (n.stays m1 n.Held) running ∙ ap (n.served_by w m1) queue_is
 
     serve_is : (n.happens w y1 (n.Serve home)).world ≡ then y1 home q
     unfolding node_definitions
@@ -245,16 +248,11 @@ module _ (w : s.Workload) (accepted : IsAccepted w) (x : d.World) (y : n.World) 
   delivery_leads site k None e = nothing w y x h
   delivery_leads site k (Some p) e = comes_at site k p e (slice_get x.nodes site) refl
 
-get_of_map : {A B : Type 0} (g : A → B) (xs : List A) (k : ℕ) → slice_get (map g xs) k ≡ option_map g (slice_get xs k)
-get_of_map g [] k = refl
-get_of_map g (z ∷ xs) zero = refl
-get_of_map g (z ∷ xs) (suc k) = get_of_map g xs k
-
 event_leads : (w : s.Workload) (x : d.World) (y : n.World) (e : Event) → IsAccepted w → Meets w x y → Leads w y (d.happens w x e).world
 unfolding wire_definitions
 event_leads w x y (Call client) accepted h = call_leads w accepted x y h client (client_site w client) refl
 event_leads w x y (Deliver site k) accepted h =
-    subst (λ o. Leads w y (d.delivers w x site o).world) (sym (ap (λ ps. slice_get ps k) h.are.packets ∙ get_of_map wired_packet y.packets k)) (delivery_leads w accepted x y h site k (slice_get y.packets k) refl)
+    subst (λ o. Leads w y (d.delivers w x site o).world) (sym (ap (λ ps. slice_get ps k) h.are.packets ∙ slice_get-map wired_packet y.packets k)) (delivery_leads w accepted x y h site k (slice_get y.packets k) refl)
 
 after_more : (w : s.Workload) (es fs : List n.Event) (y : n.World) → n.after w fs (n.after w es y) ≡ n.after w (es ++ fs) y
 unfolding node_definitions
@@ -287,7 +285,7 @@ module _ (w : s.Workload) where
   start_wired i v m e f =
       let a = get_map_back wire_first (range_with_len 0 (sites_of w)) i v e in
       let b = get_map_back (n.first_node w) (range_with_len 0 (sites_of w)) i m f in
-      let same : a.0 ≡ b.0 = get_same (range_with_len 0 (sites_of w)) i a.0 b.0 a.1.0 b.1.0 in
+      let same : a.0 ≡ b.0 = one_placed (range_with_len 0 (sites_of w)) i a.0 b.0 a.1.0 b.1.0 in
       subst (λ z. IsWired z m) a.1.1 (subst (IsWired (wire_first a.0)) b.1.1 (subst (λ k. IsWired (wire_first a.0) (n.first_node w k)) same (first_wired a.0)))
 
   start_counted : (i : ℕ) (v : d.Node) (m : n.Node) → slice_get (map wire_first (range_with_len 0 (sites_of w))) i ≡ Some v → slice_get (map (n.first_node w) (range_with_len 0 (sites_of w))) i ≡ Some m → IsCounted w v.journal.made m
@@ -319,7 +317,7 @@ module _ (w : s.Workload) where
 ordered : (w : s.Workload) (x : d.World) (y : n.World) → Meets w x y → AskedInOrder w y
 unfolding node_definitions
 ordered w x y h i client m here at =
-    let v = get_some x.nodes i (subst (λ k. i < k) (sym h.are.count) (get_lt y.nodes i m here)) in
+    let v = get_some x.nodes i (subst (λ k. i < k) (sym h.are.count) (slice_get_within y.nodes i m here)) in
     counted_range w v.0.journal.made m (h.counted i v.0 m v.1 here) client
 
 leads_to : (w : s.Workload) (x : d.World) (asks : List n.Event) → IsAccepted w → Meets w x (n.reached w asks) → LeadsTo w x asks
