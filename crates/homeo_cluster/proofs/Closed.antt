@@ -4,6 +4,7 @@ use Rattle.homeo_site.specs.Key.{definitions as site_definitions}
 use Rattle.std.proofs.Common.{◌≡◌, ℕ, ◌<◌, List, [], ◌∷◌, ◌++◌, length, Some, sym, ap, subst, ◌∙◌}
 use Rattle.std.specs.Prelude.{ℤ, slice_get}
 use Rattle.std.proofs.lemmas.List.{length-map}
+use Rattle.std.proofs.lemmas.Option.{slice_get_within}
 use Rattle.homeo_notes.specs.Lines.{Held, list_at}
 use Rattle.homeo_syntax.specs.Source as s
 use Rattle.homeo_meaning.specs.Acceptance.{IsAccepted}
@@ -12,7 +13,7 @@ use Rattle.homeo_plan.specs.declared.treaty.Broken.{Broken}
 use Rattle.homeo_plan.specs.Planned.{sites_of}
 use Rattle.homeo_history.specs.Answers.{Answer, closing_answer}
 use Rattle.homeo_history.specs.Legal.{IsClientAt}
-use Rattle.homeo_history.proofs.Lists.{get_lt, get_some, get_map_back}
+use Rattle.homeo_history.proofs.Lists.{get_some, get_map_back}
 use Rattle.homeo_site.specs.SiteState.{SiteState, renewed}
 use Rattle.homeo_core.specs.Events.{BreaksCall, closing_of, next_base, after_closing}
 use Rattle.homeo_core.specs.Joined.{BookState}
@@ -29,7 +30,7 @@ module _ (w : s.Workload) (next : List ℤ) (a : Answer) (before now : List Cell
     (ahead : list_at b0 (bases_line w) ≡ list_at bb (bases_line w) ++ next ∷ []) where
   -- a site before and after
   one : (i : ℕ) (v v' : CellValue) → slice_get before i ≡ Some v → slice_get now i ≡ Some v' → HasGoneOn w next a i v v' b
-  one i v v' e e' = gone.done i v v' (get_lt before i v e) e e'
+  one i v v' e e' = gone.done i v v' (slice_get_within before i v e) e e'
 
   number_of : (i : ℕ) (v v' : CellValue) → slice_get before i ≡ Some v → slice_get now i ≡ Some v' → v'.site.state.number ≡ i
   unfolding site_definitions
@@ -54,7 +55,7 @@ module _ (w : s.Workload) (next : List ℤ) (a : Answer) (before now : List Cell
   kept_is : (i : ℕ) (c' : Cell) → slice_get (cells_of w now) i ≡ Some c' → (client : ℕ) → IsClientAt w i client → (book_lists w b).kept client ≡ c'.lists.shut client
   kept_is i c' e' client at =
       let v' = get_map_back (cell_of w) now i c' e' in
-      let v = get_some before i (subst (λ n. i < n) gone.count (get_lt now i v'.0 v'.1.0)) in
+      let v = get_some before i (subst (λ n. i < n) gone.count (slice_get_within now i v'.0 v'.1.0)) in
       sym ((one i v.0 v'.0 v.1 v'.1.0).pairs client at) ∙ ap (λ (k : Cell). k.lists.shut client) v'.1.1
 
   pub closes : Closes w next a (cells_of w before) (cells_of w now) (book_lists w bb) (book_lists w b)
@@ -82,7 +83,7 @@ module _ (w : s.Workload) (next : List ℤ) (a : Answer) (before now : List Cell
           owns = gone.book.owns;
           seen = λ site lt.
               let v = get_some before site (subst (λ n. site < n) (sym count) lt) in
-              let v' = get_some now site (subst (λ n. site < n) (sym gone.count) (get_lt before site v.0 v.1)) in
+              let v' = get_some now site (subst (λ n. site < n) (sym gone.count) (slice_get_within before site v.0 v.1)) in
               (one site v.0 v'.0 v.1 v'.1).told;
           each = gone.book.each;
         };

@@ -1,13 +1,14 @@
 -- Sites that go on to the next round, one after another, over plain data.
 use Rattle.std.proofs.Common.{◌≡◌, ◌⊎◌, ℕ, zero, suc, ◌+◌, ◌<◌, ◌≤◌, List, [], ◌∷◌, map, length, slice_set, Some, refl, sym, ap, subst, ◌∙◌, arith, inl, inr, ⊎_elim}
 use Rattle.std.specs.Prelude.{ℤ, slice_get}
+use Rattle.homeo_lemmas.proofs.Places.{one_placed}
 use Rattle.homeo_notes.specs.Lines.{Held, HasSeen, list_at, seen_at}
 use Rattle.homeo_notes.proofs.Prefixes.{prefix_trans}
 use Rattle.homeo_syntax.specs.Source as s
 use Rattle.homeo_history.specs.Answers.{Answer}
 use Rattle.homeo_history.specs.Legal.{IsClientAt}
 use Rattle.homeo_history.proofs.ClientAnswers.{one_site}
-use Rattle.homeo_history.proofs.Lists.{get_same, get_set_same, get_set_other, length_set}
+use Rattle.homeo_history.proofs.Lists.{get_set_same, get_set_other, length_set}
 use Rattle.homeo_assembly.specs.Written.{read}
 use Rattle.homeo_cluster.specs.inner.Cells.{CellValue}
 use Rattle.homeo_cluster.specs.Places.{at_line, bases_line}
@@ -50,7 +51,7 @@ module _ (w : s.Workload) (next : List ℤ) (a : Answer) (i : ℕ) (before now :
   pub before_is : (c : CellValue) → i < length before → slice_get now i ≡ Some c → slice_get before i ≡ Some c
   before_is c lt here =
       let x = some_of before i lt in
-      let same : x.0 ≡ c = get_same now i x.0 c (so_far.same i x.0 (omega arith) x.1) here in
+      let same : x.0 ≡ c = one_placed now i x.0 c (so_far.same i x.0 (omega arith) x.1) here in
       subst (λ v. slice_get before i ≡ Some v) same x.1
 
   pub ready_now : (c : CellValue) → CanRenew w next b0 before → slice_get now i ≡ Some c → i < length before → IsReady w next b i c
@@ -103,8 +104,8 @@ module _ (w : s.Workload) (next : List ℤ) (a : Answer) (i : ℕ) (before now :
       this_one : (j : ℕ) (d d' : CellValue) → j ≡ i → slice_get before j ≡ Some d → slice_get (slice_set now i c') j ≡ Some d' → HasGoneOn w next a j d d' b'
       this_one j d d' last was new =
           let there : slice_get now i ≡ Some d = ap (slice_get now) (sym last) ∙ so_far.same j d (omega (arith, last)) was in
-          let same : c ≡ d = get_same now i c d here there in
-          let same' : c' ≡ d' = get_same (slice_set now i c') i c' d' (get_set_same now i c c' here) (ap (slice_get (slice_set now i c')) (sym last) ∙ new) in
+          let same : c ≡ d = one_placed now i c d here there in
+          let same' : c' ≡ d' = one_placed (slice_set now i c') i c' d' (get_set_same now i c c' here) (ap (slice_get (slice_set now i c')) (sym last) ∙ new) in
           subst (λ v. HasGoneOn w next a j v d' b') same
           (subst (λ v. HasGoneOn w next a j c v b') same'
           (subst (λ n. HasGoneOn w next a n c c' b') (number ∙ sym last)

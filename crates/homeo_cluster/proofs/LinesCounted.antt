@@ -4,8 +4,9 @@ use Rattle.std.proofs.Common.{◌≡◌, ◌≢◌, ℕ, zero, suc, ◌+◌, ◌
 use Rattle.std.specs.Prelude.{slice_get}
 use mathlib.Core.Logic.{dite}
 use native.Mathlib.Decide.{ℕ_discrete}
-use Rattle.homeo_history.proofs.Lists.{get_left, get_end}
+use Rattle.homeo_history.proofs.Lists.{get_end}
 use Rattle.std.proofs.lemmas.List.{length-map}
+use Rattle.homeo_lemmas.proofs.Places.{get_left}
 use Rattle.homeo_syntax.specs.Source as s
 use Rattle.homeo_meaning.specs.Schema.{nat_of}
 use Rattle.homeo_history.specs.Legal.{IsClientAt}

@@ -5,7 +5,8 @@ use Rattle.homeo_syntax.specs.Source as s
 use Rattle.homeo_plan.specs.Planned.{sites_of}
 use Rattle.homeo_history.specs.Legal.{IsClientAt}
 use Rattle.homeo_meaning.specs.Acceptance.{IsAccepted}
-use Rattle.homeo_core.proofs.FewClients.{clients_few, sites_of_few}
+use Rattle.homeo_site.proofs.Limits.{few_sites}
+use Rattle.homeo_core.proofs.FewClients.{clients_few}
 use Rattle.homeo_cluster.specs.Places.{is_less, is_same, one_for, earlier, homes, below, kept_line, done_line, shut_line, at_line, bases_line, line_count}
 use Rattle.homeo_cluster.specs.inner.Begun.{before, first_line}
 use Rattle.homeo_cluster.proofs.Apart.{in_block, split_all}
@@ -85,7 +86,7 @@ among w site client at =
 -- ---- there are few lines
 pub bases_few : (w : s.Workload) → IsAccepted w → bases_line w ≤ 272
 unfolding places
-bases_few w accepted = let clients = clients_few w accepted in let sites = sites_of_few w accepted in omega (arith, clients, sites)
+bases_few w accepted = let clients = clients_few w accepted in let sites = few_sites w accepted in omega (arith, clients, sites)
 
 pub clients_before_last : (w : s.Workload) (client : ℕ) → client < length w.clients → client < line_count w
 clients_before_last w client l = omega (arith, l)

@@ -1,11 +1,12 @@
 -- What is met after one meeting more.
 use Rattle.std.proofs.Common.{◌≡◌, ◌⊎◌, inl, inr, ⊎_elim, ℕ, zero, suc, ◌+◌, ◌<◌, List, [], ◌∷◌, ◌++◌, length, set, get_or, Some, slice_get, length-set, refl, sym, ap, subst, ◌∙◌, arith}
 use Rattle.std.proofs.Math.Seq.{map-set_same}
+use Rattle.homeo_lemmas.proofs.Places.{get_map, one_placed}
 use Rattle.homeo_syntax.specs.Source as s
 use Rattle.homeo_history.specs.Answers.{Answer}
 use Rattle.homeo_history.specs.Legal.{IsClientAt}
 use Rattle.homeo_history.proofs.ClientAnswers.{one_site}
-use Rattle.homeo_history.proofs.Lists.{get_map, get_map_back, get_same, set_cases}
+use Rattle.homeo_history.proofs.Lists.{get_map_back, set_cases}
 use Rattle.homeo_assembly.specs.Facts.{Cell, BookLists, SiteFacts}
 use Rattle.homeo_cluster.specs.inner.Cells.{CellValue, BookValue, cell_of, cells_of}
 use Rattle.homeo_cluster.specs.Passes.{PassValue, logs_of, AreAll}
@@ -49,7 +50,7 @@ pub at_more :
 at_more w cs l l' n c met at same facts e i d lt here = ⊎_elim
     (λ before. met i d before here)
     (λ now.
-    let is : c ≡ d = get_same cs n c d at (ap (slice_get cs) (sym now) ∙ here) in
+    let is : c ≡ d = one_placed cs n c d at (ap (slice_get cs) (sym now) ∙ here) in
     subst (λ k. IsMet w k l) is (record { facts = facts; at = e ∙ ap (λ (k : BookLists). k.bases) same }))
     (last_or n i lt)
 
@@ -60,7 +61,7 @@ shut_more w cs l l' n h c met home at same e client i d lt own here = ⊎_elim
     (λ before. met client i d before own here)
     (λ now.
     let place : i ≡ h = one_site w n i h (subst (IsClientAt w i) now own) home in
-    let is : c ≡ d = get_same cs h c d at (ap (slice_get cs) (sym place) ∙ here) in
+    let is : c ≡ d = one_placed cs h c d at (ap (slice_get cs) (sym place) ∙ here) in
     ap (λ (k : Cell). k.lists.shut client) (sym is)
     ∙ ap c.lists.shut now
     ∙ e
@@ -76,7 +77,7 @@ done_more w cs logs n h c log met home at logged e client i d lt own here = ⊎_
     (λ before. met client i d before own here)
     (λ now.
     let place : i ≡ h = one_site w n i h (subst (IsClientAt w i) now own) home in
-    let is : c ≡ d = get_same cs h c d at (ap (slice_get cs) (sym place) ∙ here) in
+    let is : c ≡ d = one_placed cs h c d at (ap (slice_get cs) (sym place) ∙ here) in
     ap (slice_get logs) now
     ∙ logged
     ∙ ap Some (e ∙ ap c.lists.done (sym now) ∙ ap (λ (k : Cell). k.lists.done client) is))

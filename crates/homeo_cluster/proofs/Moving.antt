@@ -6,6 +6,7 @@ use Rattle.std.proofs.lemmas.List.{map-append, length-map, length-append, take-a
 use Rattle.std.proofs.lemmas.List.Elements.{filter-append}
 use mathlib.Core.Logic.{dite}
 use native.Mathlib.Decide.{ℕ_discrete}
+use Rattle.homeo_lemmas.proofs.Places.{All-get}
 use Rattle.homeo_notes.specs.Lines.{Held, Entry, HasSeen, list_at, seen_at}
 use Rattle.homeo_syntax.specs.Source as s
 use Rattle.homeo_history.specs.History.{Entry as Made}
@@ -17,7 +18,6 @@ use Rattle.homeo_assembly.specs.Facts.{SiteFacts}
 use Rattle.homeo_assembly.specs.Written.{written, read}
 use Rattle.homeo_history.proofs.Exists.{client_lt}
 use Rattle.homeo_history.proofs.ClientAnswers.{client_at}
-use Rattle.homeo_history.proofs.Lists.{All-get}
 use Rattle.homeo_assembly.proofs.MovedEntries.{moving}
 use Rattle.homeo_notes.proofs.Prefixes.{prefix_self}
 use Rattle.homeo_cluster.specs.Key.{places}

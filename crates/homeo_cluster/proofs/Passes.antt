@@ -3,13 +3,13 @@ use Rattle.std.proofs.Common.{◌≡◌, ℕ, suc, ◌+◌, List, [], ◌∷◌,
 use Rattle.std.specs.List.{range_with_len}
 use Rattle.std.proofs.lemmas.List.{map-append, length_push}
 use Rattle.std.proofs.lemmas.List.Elements.{All-push}
+use Rattle.homeo_lemmas.proofs.Lists.{range_more}
 use Rattle.homeo_notes.specs.Lines.{Held, HasSeen, list_at}
 use Rattle.homeo_syntax.specs.Source as s
 use Rattle.homeo_history.specs.Legal.{call_count}
 use Rattle.homeo_cluster.specs.Passes.{IsPass}
 use Rattle.homeo_history.specs.Answers.{Answer}
 use Rattle.homeo_assembly.specs.Written.{written}
-use Rattle.homeo_history.proofs.Lists.{range_more}
 use Rattle.homeo_cluster.specs.inner.Grows.{Grew}
 use Rattle.homeo_cluster.specs.Places.{asked_line, done_line}
 use Rattle.homeo_cluster.proofs.Grows.{grew_same, grew_owner_same}

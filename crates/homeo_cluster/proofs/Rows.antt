@@ -3,11 +3,14 @@ use Rattle.std.proofs.Common.{◌≡◌, ℕ, zero, suc, ◌<◌, List, [], ◌�
 use Rattle.std.specs.Sync.Mutex.{mutex_guard_value}
 use Rattle.std.specs.declared.sync.MutexGuard.{MutexGuard}
 use Rattle.std.proofs.lemmas.List.{map-append, map-set, length-map}
+use Rattle.std.proofs.lemmas.Option.{slice_get_within}
+use Rattle.std.proofs.lemmas.Simd.{map-map}
+use Rattle.homeo_lemmas.proofs.Places.{get_map}
 use Rattle.homeo_syntax.specs.Source as s
 use Rattle.homeo_meaning.specs.Initial.{initial}
 use Rattle.homeo_plan.specs.Planned.{sites_of}
 use Rattle.homeo_history.proofs.Exists.{client_lt}
-use Rattle.homeo_history.proofs.Lists.{get_lt, get_map, all_from_get, map_map}
+use Rattle.homeo_history.proofs.Lists.{all_from_get}
 use Rattle.homeo_core.specs.Joined.{BookState, AreJoined}
 use Rattle.homeo_assembly.specs.Events.{InHand}
 use Rattle.homeo_assembly.specs.Facts.{Cell, BookLists, BookFacts, SiteFacts, states_of}
@@ -49,7 +52,7 @@ numbers_still w vs vs' e all i c at =
 
 pub states_are : (w : s.Workload) (vs : List CellValue) → states_of (cells_of w vs) ≡ site_states vs
 unfolding definitions
-states_are w vs = map_map (λ (c : Cell). c.site) (cell_of w) vs
+states_are w vs = map-map (λ (c : Cell). c.site) (cell_of w) vs
 
 -- ---- all in hand
 pub hand_all :
@@ -57,7 +60,7 @@ pub hand_all :
     MetAt w (length vs) (cells_of w vs) l → MetShut w (length w.clients) (cells_of w vs) l → InHand w b l (cells_of w vs)
 hand_all w vs b l book count numbers at shut =
     let long : length (cells_of w vs) ≡ length vs = length-map vs (cell_of w) in
-    let lt : (i : ℕ) (c : Cell) → slice_get (cells_of w vs) i ≡ Some c → i < length vs = (λ i c e. subst (λ n. i < n) long (get_lt (cells_of w vs) i c e)) in
+    let lt : (i : ℕ) (c : Cell) → slice_get (cells_of w vs) i ≡ Some c → i < length vs = (λ i c e. subst (λ n. i < n) long (slice_get_within (cells_of w vs) i c e)) in
     record {
       book = book;
       sites = all_from_get (λ (c : Cell). SiteFacts w c.site c.lists) (cells_of w vs) (λ i c e. (at i c (lt i c e) e).facts);

@@ -5,6 +5,9 @@ use Rattle.std.specs.Int.{w64}
 use Rattle.std.specs.Prelude.{All}
 use Rattle.std.proofs.Common.{◌≡◌, ℕ, ◌<◌, List, [], ◌∷◌, ◌++◌, take, length, Some, slice_get, FitsSigned, refl, sym, ap, subst, ◌∙◌}
 use Rattle.std.proofs.lemmas.List.{length-map}
+use Rattle.std.proofs.lemmas.Option.{slice_get_within}
+use Rattle.std.proofs.lemmas.Simd.{map-map}
+use Rattle.homeo_lemmas.proofs.Places.{get_map}
 use Rattle.homeo_syntax.specs.Source as s
 use Rattle.homeo_meaning.specs.Acceptance.{IsAccepted}
 use Rattle.homeo_meaning.specs.Bounds.{IsWithin}
@@ -13,7 +16,7 @@ use Rattle.homeo_meaning.specs.Schema.{schema_of}
 use Rattle.homeo_plan.specs.Planned.{sites_of}
 use Rattle.homeo_history.specs.Answers.{Answer}
 use Rattle.homeo_history.proofs.Exists.{client_lt}
-use Rattle.homeo_history.proofs.Lists.{get_lt, get_map, all_from_get, map_map}
+use Rattle.homeo_history.proofs.Lists.{all_from_get}
 use Rattle.homeo_site.specs.SiteState.{SiteState}
 use Rattle.homeo_core.specs.Joined.{BookState, AreJoined, history_of, segments_of, gathered}
 use Rattle.homeo_core.proofs.InRounds.{all_fit}
@@ -38,7 +41,7 @@ pub settled_all :
 settled_all w vs b l passes book count numbers all at shut done =
     let long : length (cells_of w vs) ≡ length vs = length-map vs (cell_of w) in
     let lt : (i : ℕ) (c : Cell) → slice_get (cells_of w vs) i ≡ Some c → i < length vs =
-    (λ i c e. subst (λ n. i < n) long (get_lt (cells_of w vs) i c e)) in
+    (λ i c e. subst (λ n. i < n) long (slice_get_within (cells_of w vs) i c e)) in
     record {
       book = book;
       sites = all_from_get (λ (c : Cell). SiteFacts w c.site c.lists) (cells_of w vs) (λ i c e. (at i c (lt i c e) e).facts);
@@ -57,7 +60,7 @@ settled_all w vs b l passes book count numbers all at shut done =
 -- ---- all met
 same_states : (w : s.Workload) (vs : List CellValue) → states_of (cells_of w vs) ≡ site_states vs
 unfolding definitions
-same_states w vs = map_map (λ (c : Cell). c.site) (cell_of w) vs
+same_states w vs = map-map (λ (c : Cell). c.site) (cell_of w) vs
 
 pub states_again : (w : s.Workload) (vs vs' : List CellValue) → cells_of w vs' ≡ cells_of w vs → site_states vs' ≡ site_states vs
 states_again w vs vs' e = sym (same_states w vs') ∙ ap states_of e ∙ same_states w vs

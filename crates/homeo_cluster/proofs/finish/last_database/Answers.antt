@@ -3,11 +3,12 @@ use Rattle.std.proofs.Common.{◌≡◌, ℕ, suc, ◌+◌, Some, slice_get, len
 use Rattle.std.specs.Int.{w64}
 use Rattle.std.specs.Prelude.{All}
 use Rattle.std.proofs.lemmas.Option.{slice_get_read}
+use Rattle.homeo_lemmas.proofs.Lists.{take_whole}
 use Rattle.homeo_site.specs.SiteView.{SiteValue}
 use Rattle.homeo_round.specs.GatherView.{GatherValue}
 use Rattle.homeo_round.specs.PlusDeltas.{plus_deltas}
 use Rattle.homeo_core.specs.Joined.{gathered}
-use Rattle.homeo_core.proofs.GatheredSites.{gathered_next, take_whole}
+use Rattle.homeo_core.proofs.GatheredSites.{gathered_next}
 use Rattle.homeo_cluster.specs.inner.Cells.{CellValue}
 use Rattle.homeo_cluster.specs.inner.Meets.{site_states}
 use Rattle.homeo_cluster.proofs.Settles.{states_get, states_long}

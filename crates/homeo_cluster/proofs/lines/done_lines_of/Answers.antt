@@ -1,7 +1,7 @@
 use Rattle.std.proofs.Common.{◌≡◌, ℕ, ◌+◌, ◌*◌, ◌<◌, ◌≤◌, [], ◌∷◌, ◌++◌, arith}
 use Rattle.homeo_syntax.specs.SourceView.{plain_workload}
 use Rattle.homeo_plan.specs.Planned.{sites_of}
-use Rattle.homeo_core.proofs.FewClients.{sites_of_few}
+use Rattle.homeo_site.proofs.Limits.{few_sites}
 use Rattle.homeo_assembly.proofs.ClientsAtSites.{client_below}
 use Rattle.homeo_cluster.specs.Places.{done_line}
 use Rattle.homeo_cluster.proofs.LinesCounted.{done_is, one_line_more, longer_by_one}
@@ -11,7 +11,7 @@ pub overflow_add-line-in-loop-client : goal.overflow_add-line-in-loop-client
 overflow_add-line-in-loop-client c =
     let w = plain_workload c.args.w.now in
     let accepted = c.client_count-clients.ensures.accepted in
-    let sites : sites_of w ≤ 16 = sites_of_few w accepted in
+    let sites : sites_of w ≤ 16 = few_sites w accepted in
     let home : c.site_of.result < sites_of w = client_below w c.site_of.result c.loop-client.client accepted c.site_of.ensures in
     let clients = c.client_count-clients.ensures.few in
     let place = c.place_of.ensures.few in

@@ -3,8 +3,10 @@ use Rattle.homeo_core.specs.Key.{definitions as core_definitions}
 use Rattle.homeo_assembly.specs.Key.{definitions}
 use Rattle.std.proofs.Common.{rules, ◌≡◌, ◌≢◌, ℕ, ◌+◌, ◌<◌, ◌≤◌, Bool, true, false, List, [], ◌∷◌, ◌++◌, length, map, replicate, vec_len, Some, refl, sym, ap, subst, ◌∙◌, arith}
 use Rattle.std.specs.Prelude.{ℤ, All, slice_get}
-use Rattle.std.proofs.lemmas.List.{length-map, map-append}
+use Rattle.std.proofs.lemmas.List.{length-map, map-append, length-replicate}
 use Rattle.std.proofs.lemmas.List.Elements.{All-replicate}
+use Rattle.std.proofs.lemmas.Option.{slice_get_within}
+use Rattle.homeo_lemmas.proofs.Places.{get_map}
 use Rattle.homeo_meaning.specs.Bounds.{IsWithin}
 use Rattle.homeo_meaning.specs.declared.call.CallId.{CallId}
 use Rattle.homeo_meaning.specs.Initial.{initial}
@@ -17,7 +19,6 @@ use Rattle.homeo_history.specs.declared.answer.Path.TheVariants.{Cleanup}
 use Rattle.homeo_history.specs.Legal.{IsClientAt, call_count}
 use Rattle.homeo_history.proofs.ClientAnswers.{client_at}
 use Rattle.homeo_history.proofs.Exists.{client_lt}
-use Rattle.homeo_history.proofs.Lists.{get_lt, get_map}
 use Rattle.homeo_site.specs.SiteState.{SiteState}
 use Rattle.homeo_core.specs.Events.{BreaksCall, closing_of, next_base, after_closing}
 use Rattle.homeo_core.specs.PreparedView.{PreparedValue}
@@ -25,7 +26,7 @@ use Rattle.homeo_core.specs.Joined.{BookState, AreJoined, segments_of}
 use Rattle.homeo_core.specs.Books.{book_of}
 use Rattle.homeo_core.specs.SiteLists.{AreAt, first_from}
 use Rattle.homeo_core.proofs.ClosingCalls.{next_within}
-use Rattle.homeo_core.proofs.GatheredSites.{from_all, length_same}
+use Rattle.homeo_core.proofs.GatheredSites.{from_all}
 use Rattle.homeo_core.proofs.InRounds.{at_round}
 use Rattle.homeo_assembly.specs.Facts.{states_of}
 use Rattle.homeo_assembly.proofs.MetLists as met_lists
@@ -150,10 +151,10 @@ unfolding core_definitions
 waiting_is g c =
     let p = c.requires.prepared in
     let n : ℕ = length (states g c) in
-    let long : length c.args.prepared.waiting ≡ n = ap length p.waiting ∙ length_same n true in
+    let long : length c.args.prepared.waiting ≡ n = ap length p.waiting ∙ length-replicate n true in
     ap (λ (q : PreparedValue). q.waiting) c.renew_row.ensures.prepared
     ∙ ap (first_from c.args.prepared.waiting (replicate n false)) (many g c ∙ sym long)
-    ∙ from_all c.args.prepared.waiting (replicate n false) (long ∙ sym (length_same n false))
+    ∙ from_all c.args.prepared.waiting (replicate n false) (long ∙ sym (length-replicate n false))
 
 segments_are : (g : Over) (c : After-renew_row g) → c.renew_row.new.prepared.segments ≡ segments_of (states g c)
 unfolding core_definitions
@@ -207,5 +208,5 @@ unfolding history_definitions
 returns-clause-asked g c =
     let e = (goal.at.returns-clause-asked g c).After-extend in
     let f = (goal.at.returns-clause-asked g c).After-renew_row in
-    let lt : c.args.answer.now.site < length (states g f) = get_lt (states g f) c.args.answer.now.site c.requires.breaks.site c.requires.breaks.here in
+    let lt : c.args.answer.now.site < length (states g f) = slice_get_within (states g f) c.args.answer.now.site c.requires.breaks.site c.requires.breaks.here in
     c.renew_row.ensures.gone.asked c.args.answer.now.site (asker_at g e) (subst (λ n. c.args.answer.now.site < n) (sym (many g f)) lt)

@@ -1,8 +1,8 @@
 use Rattle.std.proofs.Common.{rules, ◌≡◌, ◌<◌, List, Some, slice_get, length, length-set, refl, sym, subst, ◌∙◌, arith}
 use Rattle.std.proofs.lemmas.Option.{slice_get_read}
+use Rattle.homeo_lemmas.proofs.Places.{get_map}
 use Rattle.homeo_plan.specs.Planned.{sites_of}
 use Rattle.homeo_history.specs.Legal.{IsClientAt}
-use Rattle.homeo_history.proofs.Lists.{get_map}
 use Rattle.homeo_cluster.specs.inner.Cells.{CellValue, cell_of, cells_of}
 use Rattle.homeo_cluster.specs.Passes.{PassValue, logs_of}
 use Rattle.homeo_cluster.specs.inner.Meets.{MetDone}

@@ -2,12 +2,12 @@ use Rattle.homeo_history.specs.Key.{definitions as history_definitions}
 use Rattle.std.proofs.Common.{◌≡◌, ℕ, suc, ◌+◌, Some, slice_get, length, map, refl, ap, sym, subst, ◌∙◌, arith}
 use Rattle.std.proofs.lemmas.List.{length-map}
 use Rattle.std.proofs.lemmas.Option.{slice_get_read}
+use Rattle.homeo_lemmas.proofs.Places.{get_map}
 use Rattle.homeo_history.specs.Answers.{local_answer}
 use Rattle.homeo_history.specs.History.{Entry as Made}
 use Rattle.homeo_history.specs.HistoryView.{plain_entry}
 use Rattle.homeo_history.specs.Legal.{IsClientAt}
 use Rattle.homeo_history.proofs.Exists.{client_lt}
-use Rattle.homeo_history.proofs.Lists.{get_map}
 use Rattle.homeo_assembly.specs.Written.{written}
 use Rattle.homeo_cluster.specs.Places.{kept_line, shut_line}
 use Rattle.homeo_cluster.specs.inner.Grows.{Grew}

@@ -2,6 +2,7 @@ use Rattle.homeo_history.specs.Key.{definitions as history_definitions}
 use Rattle.homeo_core.specs.Key.{definitions as core_definitions}
 use Rattle.std.proofs.Common.{rules, ◌≡◌, ◌+◌, ◌<◌, true, List, [], length, replicate, vec_len, sym, ap, subst, ◌∙◌}
 use Rattle.std.specs.Prelude.{unwrap_or}
+use Rattle.std.proofs.lemmas.List.{length-replicate}
 use Rattle.homeo_syntax.specs.Source as s
 use Rattle.homeo_syntax.specs.SourceView.{plain_workload}
 use Rattle.homeo_meaning.specs.Bounds.{IsWithin}
@@ -15,7 +16,6 @@ use Rattle.homeo_round.specs.GatherView.{GatherValue}
 use Rattle.homeo_core.specs.Events.{closing_on}
 use Rattle.homeo_core.specs.PreparedView.{PreparedValue}
 use Rattle.homeo_core.specs.Joined.{AreJoined, gathered}
-use Rattle.homeo_core.proofs.GatheredSites.{length_same}
 use Rattle.homeo_core.proofs.InRounds.{at_round}
 use Rattle.homeo_cluster.specs.inner.Cells.{book_state, book_lists}
 use Rattle.homeo_cluster.specs.inner.Meets.{site_states}
@@ -73,7 +73,7 @@ returns g c =
       base = ap (λ (p : PreparedValue). p.base) is ∙ ap (λ (x : GatherValue). x.base) all;
       closing = ap (λ (p : PreparedValue). p.closing) is ∙ (λ i. closing_on (named i) (sum i) (home i) call c.args.broken);
       next = ap (λ (p : PreparedValue). p.next) is ∙ (λ i. (call_outcome (named i) call (sum i)).database);
-      segments = ap (λ (p : PreparedValue). length p.segments) is ∙ length_same (sites_of (plain_workload c.self.inside.compiled.value)) [] ∙ count;
+      segments = ap (λ (p : PreparedValue). length p.segments) is ∙ length-replicate (sites_of (plain_workload c.self.inside.compiled.value)) [] ∙ count;
       waiting = ap (λ (p : PreparedValue). p.waiting) is ∙ ap (λ n. replicate n true) count;
       few = subst (λ n. n + 1 < 9223372036854775808) (sym (ap (λ (p : PreparedValue). p.round) is)) few;
     }

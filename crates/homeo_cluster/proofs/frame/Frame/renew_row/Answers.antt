@@ -1,11 +1,11 @@
 use Rattle.homeo_history.specs.Key.{definitions as history_definitions}
 use Rattle.homeo_core.specs.Key.{definitions as core_definitions}
 use Rattle.std.proofs.Common.{rules, ◌≡◌, ℕ, suc, ◌+◌, ◌<◌, true, false, List, [], ◌∷◌, ◌++◌, Some, slice_get, slice_set, length, length-set, replicate, vec_len, refl, sym, ap, subst, ◌∙◌, arith}
+use Rattle.homeo_lemmas.proofs.Places.{get_map}
 use Rattle.homeo_notes.specs.Lines.{list_at}
 use Rattle.homeo_history.specs.Answers.{Answer}
 use Rattle.homeo_history.specs.HistoryView.{plain_answer}
 use Rattle.homeo_history.specs.Legal.{IsClientAt}
-use Rattle.homeo_history.proofs.Lists.{get_map}
 use Rattle.homeo_site.specs.SiteState.{SiteState}
 use Rattle.homeo_core.specs.PreparedView.{PreparedValue}
 use Rattle.homeo_core.specs.Joined.{segments_of}

@@ -4,7 +4,8 @@ use Rattle.homeo_syntax.specs.Source as s
 use Rattle.homeo_meaning.specs.Acceptance.{IsAccepted}
 use Rattle.homeo_history.specs.Legal.{IsClientAt}
 use Rattle.homeo_history.proofs.Exists.{has_site}
-use Rattle.homeo_core.proofs.FewClients.{clients_few, sites_of_few}
+use Rattle.homeo_site.proofs.Limits.{few_sites}
+use Rattle.homeo_core.proofs.FewClients.{clients_few}
 use Rattle.homeo_assembly.proofs.ClientsAtSites.{client_below}
 use Rattle.homeo_cluster.specs.Places.{shut_line, at_line, bases_line}
 use Rattle.homeo_cluster.proofs.LinesInOrder.{among, at_before_bases, shut_after_done}
@@ -16,7 +17,7 @@ unfolding places
 below_all w site client accepted at =
     let own : shut_line w client < at_line w site = (among w site client at).last in
     let last : at_line w site < bases_line w = at_before_bases w site (client_below w site client accepted at) in
-    omega (arith, own, last, clients_few w accepted, sites_of_few w accepted)
+    omega (arith, own, last, clients_few w accepted, few_sites w accepted)
 
 pub overflow_add-result : goal.overflow_add-result
 overflow_add-result g c =
