@@ -2,11 +2,11 @@
 use Rattle.std.proofs.Common.{◌≡◌, ◌≤◌, ◌+◌, ◌∙◌, ◌++◌, ℕ, List, Some, None, length, refl, sym, ap, subst, arith, append-nil, length-append, inl, inr}
 use Rattle.std.specs.Prelude.{◌⊎◌}
 use Rattle.std.specs.declared.option.Option.{Option}
+use Rattle.std.proofs.lemmas.Option.{slice_get_within}
 use Rattle.homeo_io.specs.Moved.{Gave, GaveAll}
 use Rattle.homeo_syntax.specs.declared.workload.Refusal.{Refusal}
 use Rattle.homeo_syntax.specs.Source as s
 use Rattle.homeo_accept.proofs.Decided.{accepted_not_refused, one_accepted}
-use Rattle.homeo_history.proofs.Lists.{get_lt}
 use Rattle.homeo_wire.specs.Drive.{calls_in}
 use Rattle.homeo_wire.specs.Key.{definitions as wire_definitions}
 use Rattle.homeo_meaning.specs.declared.call.Purpose.{Purpose}
@@ -72,7 +72,7 @@ stream_not_refused old new output bytes out r o told stops =
 -- a workload with few calls has none that is too many
 few_not_many : (w : s.Workload) (r : Refusal) → length (calls_in w) ≤ 200 → IsExcess w r → ⊥
 unfolding wire_definitions
-few_not_many w r few many = let lt = get_lt (calls_in w) 200 many.call many.past in omega (arith, few, lt)
+few_not_many w r few many = let lt = slice_get_within (calls_in w) 200 many.call many.past in omega (arith, few, lt)
 
 text_not_many : (old new : Option (List ℕ)) (number : ℕ) (output text : List ℕ) (r : Refusal) → OfText purpose.Run old new (λ w. IsWireReport w number output) → old ≡ Some text → HasExcess text r → ⊥
 text_not_many old new number output text r o told many =

@@ -5,12 +5,13 @@ use Rattle.std.specs.Option.{option_map_or}
 use Rattle.std.proofs.lemmas.Grind.{same_number_lists}
 use Rattle.std.proofs.lemmas.List.{length-map}
 use Rattle.std.proofs.lemmas.Option.{get_or_from_slice_get}
+use Rattle.homeo_lemmas.proofs.Places.{get_map}
 use Rattle.homeo_syntax.specs.Source as s
 use Rattle.homeo_history.specs.Answers.{Answer}
 use Rattle.homeo_history.specs.History.{History}
 use Rattle.homeo_history.specs.Key.{definitions as history_definitions}
 use Rattle.homeo_history.specs.Legal.{IsFull, IsLegal, call_count}
-use Rattle.homeo_history.proofs.Lists.{get_map, get_map_back}
+use Rattle.homeo_history.proofs.Lists.{get_map_back}
 use Rattle.homeo_assembly.specs.Laws.{IsAssembled}
 use Rattle.homeo_cluster.specs.Passes.{PassValue, AreAll, AreBegun, AreFinished, HasAllAnswers, logs_of}
 

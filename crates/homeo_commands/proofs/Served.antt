@@ -1,5 +1,5 @@
 -- What serving keeps from piece to piece.
-use Rattle.std.proofs.Common.{◌≡◌, ◌∙◌, ◌⊎◌, ◌+◌, ◌-◌, ◌<◌, ◌≤◌, ℕ, false, List, [], ◌∷◌, ◌++◌, length, take, refl, sym, ap, subst, arith, append-nil, length-append, inl, inr, None, Some}
+use Rattle.std.proofs.Common.{◌≡◌, ◌∙◌, ◌⊎◌, ◌+◌, ◌-◌, ◌<◌, ◌≤◌, ℕ, false, List, [], ◌∷◌, ◌++◌, length, refl, sym, ap, subst, arith, append-nil, length-append, inl, inr, None, Some}
 use Rattle.std.specs.declared.option.Option.{Option}
 use Rattle.std.specs.Io.KnownBytes.{Consumes, Appends}
 use Rattle.std.proofs.KnownBytes.{Consumes-trans}
@@ -31,14 +31,6 @@ pub piece_early : (bytes piece out : List ℕ) (s : State) → IsAfter bytes out
 piece_early bytes piece out s h few = record { early = bytes; late = piece; are = refl; few = few; state = s; goes_on = h }
 
 -- ---- reads
-none_taken : (ys : List ℕ) (n : ℕ) → n ≡ 0 → take n ys ≡ []
-none_taken ys n e = ap (λ m. take m ys) e
-
--- a read of nothing leaves all there
-pub end_gave : (a b c : Option (List ℕ)) (bytes ys : List ℕ) (n : ℕ) → Consumes a b bytes → Consumes b c (take n ys) → n ≡ 0 → Consumes a c bytes
-end_gave a b c bytes ys n gave none e =
-    subst (Consumes a c) (ap (λ l. bytes ++ l) (none_taken ys n e) ∙ append-nil bytes) (Consumes-trans a b c bytes (take n ys) gave none)
-
 -- the measure of the loop falls
 pub falls :
     (bytes sent piece out : List ℕ) (s t : State) → IsAfter bytes sent s → IsAfter (bytes ++ piece) out t → 0 < length piece →

@@ -4,6 +4,8 @@ use Rattle.std.specs.Prelude.{slice_get, nat_lt}
 use Rattle.std.specs.List.{flat_map}
 use Rattle.std.proofs.lemmas.Bool.Decides.{nat_tests}
 use Rattle.std.proofs.lemmas.List.{get_or-map, length-map, map-append}
+use Rattle.std.proofs.lemmas.List.Elements.{All-nil, All-cons}
+use Rattle.homeo_lemmas.proofs.Lists.{map_take_more}
 use Rattle.homeo_syntax.specs.Source as s
 use Rattle.homeo_syntax.specs.Low.{Command}
 use Rattle.homeo_meaning.specs.Key.{definitions as meaning_definitions}
@@ -24,7 +26,7 @@ use Rattle.homeo_meaning.specs.declared.rules.Fault.{Fault}
 use Rattle.homeo_meaning.specs.declared.rules.Item.TheVariants as I
 use Rattle.homeo_meaning.proofs.FaultParts.{none_first, none_second, parts, declared_parts, limit_parts}
 use Rattle.homeo_meaning.proofs.GroundCalls.{Every}
-use Rattle.homeo_meaning.proofs.SoundRules.{all_none, all_more, names_one, named-is}
+use Rattle.homeo_meaning.proofs.SoundRules.{names_one, named-is}
 use Rattle.homeo_meaning.proofs.TransactionPlaces.{transaction_place}
 use Rattle.homeo_plan.specs.Key.{definitions as plan_definitions}
 use Rattle.homeo_plan.specs.Planned.{sites_of, planned_call}
@@ -34,7 +36,7 @@ use Rattle.homeo_plan.proofs.PlannedCalls.{every_both, every_distinct}
 use Rattle.homeo_plan.proofs.RowCounts.{rows_shift}
 use Rattle.homeo_print.specs.Key.{definitions as print_definitions}
 use Rattle.homeo_print.specs.Tables.{call_table, row_text, rows_text, table_text, joint_text}
-use Rattle.homeo_print.proofs.OneMore.{views_more, numbered_more}
+use Rattle.homeo_print.proofs.OneMore.{numbered_more}
 use Rattle.homeo_commands.specs.inner.Key.{definitions}
 use Rattle.homeo_commands.specs.inner.Tabulated.{HasFewRows, AddsJoint, calls_text, rows_from}
 use Rattle.homeo_order.proofs.Accepting.{few_from}
@@ -99,9 +101,9 @@ few_rows w before (c ∷ cs) none =
 -- ---- all of them
 all_few : (w : s.Workload) (us : List SitedCall) → Every (IsNamed w) us → Every (HasFew w) us → All (HasFewRows w) (map (ground_of_sited w) us)
 unfolding meaning_definitions
-all_few w [] named few = all_none (HasFewRows w)
+all_few w [] named few = All-nil (HasFewRows w)
 all_few w (u ∷ us) named few =
-    all_more (HasFewRows w) (ground_of_sited w u) (map (ground_of_sited w) us) (subst (λ c. rows c ≤ 4096) (same_form w u named.0) few.0)
+    All-cons (HasFewRows w) (ground_of_sited w u) (map (ground_of_sited w) us) (subst (λ c. rows c ≤ 4096) (same_form w u named.0) few.0)
     (all_few w us named.1 few.1)
 
 pub tables_are_few : (w : s.Workload) → faults Tables w ≡ [] → All (HasFewRows w) (grounds w)
@@ -143,7 +145,7 @@ pub counts_more :
     map length (map (call_table w) (map plain_ground (take i calls))) ++ length (call_table w (plain_ground g)) ∷ []
 counts_more w calls i g within is =
     let before = map plain_ground (take i calls) in
-    ap (λ gs. map length (map (call_table w) gs)) (views_more plain_ground calls i g within is)
+    ap (λ gs. map length (map (call_table w) gs)) (map_take_more plain_ground calls i g within is)
     ∙ ap (map length) (map-append (call_table w) before (plain_ground g ∷ []))
     ∙ map-append length (map (call_table w) before) (call_table w (plain_ground g) ∷ [])
 

@@ -1,10 +1,11 @@
 use Rattle.std.proofs.Common.{rules, ◌≡◌, ◌∙◌, ◌++◌, ℕ, List, [], take, Option, Some, is_some, sym, ap, subst, arith, inl, inr}
 use Rattle.std.proofs.KnownBytes.{Appends-trans, Appends-nil, Consumes-trans, Consumes-nil}
+use Rattle.homeo_lemmas.proofs.Readers.{end_gave}
 use Rattle.homeo_io.specs.Moved.{TookExactly, TookPrefix}
 use Rattle.homeo_syntax.specs.declared.workload.Refusal.{Refusal}
 use Rattle.homeo_commands.specs.declared.serve.Ending.{Ending}
 use Rattle.homeo_commands.specs.declared.serve.Ending.TheVariants as e
-use Rattle.homeo_commands.proofs.Served.{whole_early, piece_early, end_gave, falls, stop_late, owed, begins_early, read_piece}
+use Rattle.homeo_commands.proofs.Served.{whole_early, piece_early, falls, stop_late, owed, begins_early, read_piece}
 use Rattle.homeo_commands.proofs.serve.serve_source.Goals as goal
 
 same_stop : (r q : Refusal) → ◌≡◌ {A = Ending} (e.Stopped r) (e.Stopped q) → Some r ≡ Some q
