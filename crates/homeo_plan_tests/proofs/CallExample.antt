@@ -6,6 +6,7 @@ use Rattle.std.specs.Prelude.{replicate, slice_index_or}
 use Rattle.std.specs.Int.RustNames.{unsigned_abs}
 use Rattle.std.proofs.lemmas.Int.{ints}
 use Rattle.std.proofs.lemmas.List.{length-map}
+use Rattle.homeo_lemmas.proofs.Lists.{length_zeros}
 use Rattle.homeo_syntax.specs.Low.{Command}
 use Rattle.homeo_syntax.specs.Source.{Workload}
 use Rattle.homeo_syntax.specs.declared.low.SplitName.TheVariants.{Base, Delta}
@@ -46,10 +47,6 @@ zeros_at : (n x : ℕ) → slice_index_or (replicate n (pos 0)) x (pos 0) ≡ po
 zeros_at zero x = refl
 zeros_at (suc n) zero = refl
 zeros_at (suc n) (suc x) = zeros_at n x
-
-zeros_count : (n : ℕ) → length (replicate n (pos 0)) ≡ n
-zeros_count zero = refl
-zeros_count (suc n) = let rest = zeros_count n in omega arith
 
 -- parts of a state are those of one that agrees with it
 agreeing_parts : (k i a b : ℕ) (s u : State) → AgreeOnNames s u → HasSmallParts k i a b u → HasSmallParts k i a b s
@@ -131,7 +128,7 @@ module _
         2 i (ground_form w g) (enough i site) (ground_whole w g) (named_law w g accepted)
       where
         count : length (all_bounds (schema_of w)) ≡ length (zeros database)
-        count = sym (length_in (all_bounds (schema_of w)) database within) ∙ sym (zeros_count (length database))
+        count = sym (length_in (all_bounds (schema_of w)) database within) ∙ sym (length_zeros (length database))
 
         enough : (j : ℕ) → j < 2 → length (all_bounds (schema_of w)) ≤ slice_index_or (length (zeros database) ∷ length (zeros database) ∷ []) j 0
         enough zero lt = omega (arith, count)

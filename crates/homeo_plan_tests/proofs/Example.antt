@@ -2,6 +2,7 @@
 use Rattle.std.proofs.Common.{◌≡◌, ◌≢◌, ◌<◌, ◌≤◌, ℕ, pos, ◌≤ℤ◌, List, [], ◌∷◌, ◌++◌, ◌-◌, All, refl, ap, sym, subst, ◌∙◌, arith}
 use Rattle.std.specs.Prelude.{codes, AllPairs}
 use Rattle.std.proofs.lemmas.List.Kept.{AllPairs-cons}
+use Rattle.std.proofs.lemmas.List.Elements.{All-nil, All-cons}
 use Rattle.homeo_syntax.specs.Key.{definitions as syntax_definitions}
 use Rattle.homeo_syntax.specs.Listed.{Listed}
 use Rattle.homeo_syntax.specs.Source as s
@@ -13,7 +14,6 @@ use Rattle.homeo_meaning.specs.Calls.{CallExists}
 use Rattle.homeo_meaning.specs.Faults.{faults}
 use Rattle.homeo_meaning.specs.declared.call.CallId.{CallId}
 use Rattle.homeo_meaning.specs.declared.call.Purpose.TheVariants.{Run}
-use Rattle.homeo_meaning.proofs.SoundRules.{all_none, all_more}
 use Rattle.homeo_plan_tests.specs.inner.Example.{example}
 
 no_faults : faults Run example ≡ []
@@ -45,17 +45,17 @@ amount_is_not_cashier : codes "amount" ≢ codes "cashier"
 amount_is_not_cashier e = cc
 
 differs_from_cashier : (a : List ℕ) → a ≢ codes "cashier" → All (Differs a) (codes "cashier" ∷ [])
-differs_from_cashier a d = all_more (Differs a) (codes "cashier") [] d (all_none (Differs a))
+differs_from_cashier a d = All-cons (Differs a) (codes "cashier") [] d (All-nil (Differs a))
 
 differs_from_two : (a : List ℕ) → a ≢ codes "amount" → a ≢ codes "cashier" → All (Differs a) (codes "amount" ∷ codes "cashier" ∷ [])
-differs_from_two a d e = all_more (Differs a) (codes "amount") (codes "cashier" ∷ []) d (differs_from_cashier a e)
+differs_from_two a d e = All-cons (Differs a) (codes "amount") (codes "cashier" ∷ []) d (differs_from_cashier a e)
 
 names_differ : AllPairs Differs example.names
 names_differ =
-    AllPairs-cons Differs (codes "stock") (codes "sell" ∷ codes "amount" ∷ codes "cashier" ∷ []) (all_more (Differs (codes "stock")) (codes "sell") (codes "amount" ∷ codes "cashier" ∷ []) stock_is_not_sell (differs_from_two (codes "stock") stock_is_not_amount stock_is_not_cashier))
+    AllPairs-cons Differs (codes "stock") (codes "sell" ∷ codes "amount" ∷ codes "cashier" ∷ []) (All-cons (Differs (codes "stock")) (codes "sell") (codes "amount" ∷ codes "cashier" ∷ []) stock_is_not_sell (differs_from_two (codes "stock") stock_is_not_amount stock_is_not_cashier))
     (AllPairs-cons Differs (codes "sell") (codes "amount" ∷ codes "cashier" ∷ []) (differs_from_two (codes "sell") sell_is_not_amount sell_is_not_cashier)
     (AllPairs-cons Differs (codes "amount") (codes "cashier" ∷ []) (differs_from_cashier (codes "amount") amount_is_not_cashier)
-    (AllPairs-cons Differs (codes "cashier") [] (all_none (Differs (codes "cashier"))) no_pairs)))
+    (AllPairs-cons Differs (codes "cashier") [] (All-nil (Differs (codes "cashier"))) no_pairs)))
 
 named_stock : IsName First (codes "stock")
 unfolding syntax_definitions
@@ -137,4 +137,4 @@ unfolding meaning_definitions
 second_exists = refl
 
 pub exist : (w : s.Workload) → w ≡ example → All (CallExists w) (record { client = 0; seq = 1 } ∷ record { client = 0; seq = 2 } ∷ [])
-exist w e = subst (λ v. All (CallExists v) (first ∷ second ∷ [])) (sym e) (all_more (CallExists example) first (second ∷ []) first_exists (all_more (CallExists example) second [] second_exists (all_none (CallExists example))))
+exist w e = subst (λ v. All (CallExists v) (first ∷ second ∷ [])) (sym e) (All-cons (CallExists example) first (second ∷ []) first_exists (All-cons (CallExists example) second [] second_exists (All-nil (CallExists example))))

@@ -1,6 +1,7 @@
 -- So few slots of one field each, beside one object, are few objects.
 use Rattle.std.proofs.Common.{◌≡◌, ◌≤◌, ◌+◌, ◌*◌, ℕ, All, [], ◌∷◌, map, pos, length, sym, ap₂, ◌∙◌, subst, arith}
 use Rattle.std.proofs.lemmas.List.{length-map}
+use Rattle.std.proofs.lemmas.List.Elements.{All-nil, All-cons}
 use Rattle.homeo_syntax.specs.Key.{definitions as syntax_definitions}
 use Rattle.homeo_syntax.specs.SourceView.{plain_relation}
 use Rattle.homeo_syntax.specs.declared.workload.RelationDecl.{RelationDecl}
@@ -8,7 +9,6 @@ use Rattle.homeo_syntax.specs.declared.workload.Workload.{Workload}
 use Rattle.homeo_meaning.specs.Key.{definitions as meaning_definitions}
 use Rattle.homeo_meaning.specs.Context.{object_count}
 use Rattle.homeo_meaning.specs.Schema.{declared_range, declared_relation, nat_of}
-use Rattle.homeo_meaning.proofs.SoundRules.{all_none, all_more}
 use Rattle.homeo_context.specs.Placed.{HasSlots}
 use Rattle.homeo_plan_tests.proofs.sizes.measured.Goals as goal
 
@@ -16,7 +16,7 @@ one_slotted : (w : Workload) (r : RelationDecl) (slots : ℕ) → w.relations.it
 unfolding meaning_definitions
 one_slotted w r slots is s l m =
     let here : HasSlots r = record { least = subst (λ v. 1 ≤ nat_of v) (sym s) l; most = subst (λ v. nat_of v ≤ 64) (sym s) m } in
-    subst (All HasSlots) (sym is) (all_more HasSlots r [] here (all_none HasSlots))
+    subst (All HasSlots) (sym is) (All-cons HasSlots r [] here (All-nil HasSlots))
 
 few : (w : Workload) (r : RelationDecl) (slots : ℕ) → w.relations.items ≡ r ∷ [] → length w.objects.items ≡ 1 → r.slots.value ≡ pos slots → length r.fields.items ≡ 1 → slots ≤ 64 → object_count (length w.objects.items) (map declared_relation (map plain_relation w.relations.items)) ≤ 1024
 unfolding syntax_definitions meaning_definitions
