@@ -1,7 +1,8 @@
 -- The residual of a planned call can be run at its site on the base, and writes that site's deltas alone.
-use Rattle.std.proofs.Common.{◌≡◌, ℕ, zero, suc, ◌<◌, ◌==◌, Bool, true, false, cond, List, [], ◌∷◌, map, slice_get, ℤ, pos, ◌+ℤ◌, Some, refl, sym, ap, subst, inl, inr, arith}
+use Rattle.std.proofs.Common.{◌≡◌, ℕ, zero, suc, ◌<◌, ◌==◌, true, List, [], ◌∷◌, map, slice_get, ℤ, ◌+ℤ◌, Some, refl, sym, ap, subst, inl, inr, arith}
 use mathlib.Core.Path.{fun_ext}
 use Rattle.std.proofs.lemmas.Int.{ints}
+use Rattle.homeo_lemmas.proofs.Integers.{cond_zero}
 use Rattle.homeo_syntax.specs.Source as s
 use Rattle.homeo_meaning.specs.Key.{definitions as meaning_definitions}
 use Rattle.homeo_meaning.specs.Acceptance.{IsAccepted}
@@ -37,14 +38,11 @@ base_is_alone : (b : ℕ → ℤ) (i : ℕ) → alone b i no_deltas ≡ whole b
 unfolding plan_definitions meaning_definitions
 base_is_alone b i = fun_ext at
   where
-    zero : (v : Bool) → cond v (pos 0) (pos 0) ≡ pos 0
-    zero true = refl
-    zero false = refl
 
     at : (p : Location) → alone b i no_deltas p ≡ whole b p
     at (TempAt t) = refl
     at (BaseAt n) = refl
-    at (DeltaAt n j) = zero (j == i)
+    at (DeltaAt n j) = cond_zero (j == i)
 
 no_change : (b : ℕ → ℤ) → b ≡ (λ n. b n +ℤ no_deltas n)
 unfolding plan_definitions
