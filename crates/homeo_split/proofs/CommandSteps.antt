@@ -2,6 +2,7 @@
 use Rattle.std.proofs.Common.{◌≡◌, ℕ, ◌+◌, ◌<◌, ◌≤◌, ℤ, true, false, cond, Bool, ◌&&◌, Box, Global, List, [], ◌∷◌, ◌++◌, map, drop, get_or, length, refl, sym, ap, ◌∙◌, append_assoc}
 use Rattle.std.proofs.lemmas.List.{append-nil}
 use Rattle.std.proofs.lemmas.Bool.{and_parts}
+use Rattle.homeo_lemmas.proofs.Lists.{map_drop_past}
 use Rattle.homeo_syntax.specs.Key.{definitions as syntax_definitions}
 use Rattle.homeo_syntax.specs.LowView.{low_commands, plain_lcommand, plain_lcond}
 use Rattle.homeo_syntax.specs.declared.low.LCond as condition
@@ -12,7 +13,7 @@ use Rattle.homeo_syntax.specs.Low.{Expr, Cond, Command, Commands, Skip, Assign, 
 use Rattle.homeo_syntax.proofs.LowViews.{low_If}
 use Rattle.homeo_meaning.specs.Key.{definitions as meaning_definitions}
 use Rattle.homeo_meaning.specs.LowMeaning.{State, Run, TempAt, location_of, put, value, holds, after_prints, exec, exec_all}
-use Rattle.homeo_meaning.proofs.Steps.{drop_next, drop_none}
+use Rattle.homeo_meaning.proofs.Steps.{drop_next}
 use Rattle.homeo_split.specs.Key.{definitions}
 use Rattle.homeo_split.specs.CanExec.{expr_fits, cond_fits, can_exec, can_exec_all}
 use Rattle.homeo_split.specs.States.{run_of}
@@ -154,7 +155,7 @@ pub has_parts : (h : Shape) (cs : List tree.LCommand) (i : ℕ) (c : tree.LComma
 has_parts h cs i c l p has = and_parts _ _ (sym (has_step h cs i c l p) ∙ has)
 
 pub has_stop : (h : Shape) (cs : List tree.LCommand) (i : ℕ) → length cs ≤ i → has_places_all h (low_commands (map plain_lcommand (drop i cs))) ≡ true
-has_stop h cs i l = ap (λ l. has_places_all h (low_commands l)) (drop_none plain_lcommand cs i l) ∙ has_end h
+has_stop h cs i l = ap (λ l. has_places_all h (low_commands l)) (map_drop_past plain_lcommand cs i l) ∙ has_end h
 
 pub run_step : (b : ℕ) (s u : State) (ps qs : List ℤ) (cs : List tree.LCommand) (i : ℕ) (c : tree.LCommand) → i < length cs → c ≡ get_or cs i c → can_exec_all b (low_commands (map plain_lcommand (drop i cs))) s ≡ true → run_of u qs ≡ after_prints ps (exec (plain_lcommand c) s) → RunStep b s u ps qs cs i
 run_step b s u ps qs cs i c h p can ran =

@@ -1,13 +1,14 @@
 -- The first of the phrases that are left.
 use Rattle.std.proofs.Common.{◌≡◌, ℕ, ◌+◌, ◌<◌, ◌≤◌, ℤ, ◌+ℤ◌, ◌*ℤ◌, true, cond, ◌&&◌, List, map, drop, get_or, length, sym, ap, ◌∙◌}
 use Rattle.std.proofs.lemmas.Bool.{and_parts}
+use Rattle.homeo_lemmas.proofs.Lists.{map_drop_past}
 use Rattle.homeo_syntax.specs.Low as l
 use Rattle.homeo_syntax.specs.LowView.{low_exprs, low_tests, plain_lexpr, plain_ltest}
 use Rattle.homeo_syntax.specs.declared.low.LExpr.{LExpr}
 use Rattle.homeo_syntax.specs.declared.low.LTest.{LTest}
 use Rattle.homeo_meaning.specs.LowMeaning.{State, value, sum_value, product_value, passes, holds}
 use Rattle.homeo_meaning.specs.Small.{is_small}
-use Rattle.homeo_meaning.proofs.Steps.{drop_next, drop_none}
+use Rattle.homeo_meaning.proofs.Steps.{drop_next}
 use Rattle.homeo_split.specs.Key.{definitions}
 use Rattle.homeo_split.specs.CanExec.{expr_fits, sum_fits, product_fits, test_fits, cond_fits}
 use Rattle.homeo_split.proofs.Equations.{sum_end, sum_more, sum_fits_more, product_end, product_more, product_fits_more, holds_more, cond_fits_more}
@@ -46,7 +47,7 @@ sum_step {b} {s} {n} es i e h p fits =
     }
 
 pub sum_stop : (s : State) (n : ℤ) (es : List LExpr) (i : ℕ) → length es ≤ i → n ≡ sum_value n (low_exprs (map plain_lexpr (drop i es))) s
-sum_stop s n es i h = sym (ap (λ l. sum_value n (low_exprs l) s) (drop_none plain_lexpr es i h) ∙ sum_end s n)
+sum_stop s n es i h = sym (ap (λ l. sum_value n (low_exprs l) s) (map_drop_past plain_lexpr es i h) ∙ sum_end s n)
 
 -- one more factor of a product
 pub record ProductStep (b : ℕ) (s : State) (n : ℤ) (es : List LExpr) (i : ℕ) (e : LExpr) : Type 0 where
@@ -71,7 +72,7 @@ product_step {b} {s} {n} es i e h p fits =
     }
 
 pub product_stop : (s : State) (n : ℤ) (es : List LExpr) (i : ℕ) → length es ≤ i → n ≡ product_value n (low_exprs (map plain_lexpr (drop i es))) s
-product_stop s n es i h = sym (ap (λ l. product_value n (low_exprs l) s) (drop_none plain_lexpr es i h) ∙ product_end s n)
+product_stop s n es i h = sym (ap (λ l. product_value n (low_exprs l) s) (map_drop_past plain_lexpr es i h) ∙ product_end s n)
 
 -- one more test of a condition
 pub record TestStep (b : ℕ) (s : State) (ts : List LTest) (i : ℕ) (t : LTest) : Type 0 where
