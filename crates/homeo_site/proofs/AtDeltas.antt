@@ -4,6 +4,7 @@ use Rattle.std.specs.Prelude.{◌||◌, ◌==◌}
 use Rattle.std.specs.List.{range_with_len, list_any}
 use Rattle.std.proofs.lemmas.Bool.Decides.{nat_tests}
 use Rattle.std.proofs.lemmas.List.{get_or_past}
+use Rattle.homeo_lemmas.proofs.Lists.{range_more}
 use Rattle.homeo_syntax.specs.Source as s
 use Rattle.homeo_syntax.specs.SourceView.{plain_workload}
 use Rattle.homeo_meaning.specs.Key.{definitions as meaning_definitions}
@@ -27,7 +28,6 @@ use Rattle.homeo_outline.specs.declared.plan.ObjectPlan.{ObjectPlan}
 use Rattle.homeo_history.specs.Key.{definitions as history_definitions}
 use Rattle.homeo_history.specs.Replayed.{MeetsTreaty, finding_at}
 use Rattle.homeo_history.specs.declared.history.Segment.{Segment}
-use Rattle.homeo_history.proofs.Lists.{range_more}
 use Rattle.homeo_site.specs.OwnTreaty.{OwnClause, SumsFit, own_clauses}
 use Rattle.homeo_site.specs.SiteView.{StartValue, with_deltas}
 use Rattle.homeo_site.specs.Standing.{IsStart}

@@ -3,6 +3,7 @@ use Rattle.std.proofs.Common.{◌≡◌, ◌⊎◌, ℕ, ◌+◌, ◌-◌, ◌<�
 use Rattle.std.specs.Prelude.{◌||◌}
 use Rattle.std.proofs.lemmas.Bool.Decides.{nat_tests}
 use Rattle.std.proofs.lemmas.List.{length-map}
+use Rattle.std.proofs.lemmas.Bool.{or_right}
 use Rattle.homeo_syntax.specs.Listed.{Listed}
 use Rattle.homeo_plan.specs.declared.forms.Delta.{Delta}
 use Rattle.homeo_plan.specs.declared.forms.Term.{Term}
@@ -13,7 +14,7 @@ use Rattle.homeo_outline.specs.Numbers.{has, numbers_where, names_object, clause
 use Rattle.homeo_outline.specs.ObjectPlan.{template_in}
 use Rattle.homeo_outline.specs.Outlined.{Outlined}
 use Rattle.homeo_outline.specs.declared.plan.ObjectPlan.{ObjectPlan}
-use Rattle.homeo_outline.proofs.Numbers.{numbered, has_number, or_true}
+use Rattle.homeo_outline.proofs.Numbers.{numbered, has_number}
 use Rattle.homeo_site.specs.Earliest.{IsEarliest, earlier}
 use Rattle.homeo_site.specs.Key.{definitions}
 use Rattle.homeo_site.specs.OwnTreaty.{own_term, own_sum}
@@ -74,7 +75,7 @@ module _ (p : ObjectPlan) where
             let here = placed u.delta.object ws e in
             let names : (u.delta.object == get_or ws here.place 0) ≡ true = grind (arith, nat_tests, here.is) in
             inl (record { place = here.place; below = here.below; names = ap (λ b. b || names_object (get_or ws here.place 0) ts) names })
-        go false e (inl a) = inl (record { place = a.place; below = a.below; names = or_true (u.delta.object == get_or ws a.place 0) _ a.names })
+        go false e (inl a) = inl (record { place = a.place; below = a.below; names = or_right (u.delta.object == get_or ws a.place 0) _ a.names })
         go false e (inr s) = inr (ap₂ (λ m z. (u.factor *ℤ m) +ℤ z) (same u.delta.object e) s)
 
     pub clause_stands :

@@ -2,6 +2,7 @@
 use Rattle.std.proofs.Common.{◌≡◌, ℕ, ◌<◌, List, [], map, length, get_or, ℤ, pos, ◌*ℤ◌, ◌≤ℤ◌, int_le, All, true, cond, Some, None, sym, ap, ◌∙◌, subst, arith}
 use Rattle.std.proofs.lemmas.Int.{ints}
 use Rattle.std.proofs.lemmas.List.{length-map, get_or-map}
+use Rattle.homeo_lemmas.proofs.Integers.{at_most_both}
 use Rattle.homeo_syntax.specs.Listed.{Listed}
 use Rattle.homeo_plan.specs.declared.forms.Delta.{Delta}
 use Rattle.homeo_plan.specs.declared.forms.Term.{Term}
@@ -12,7 +13,6 @@ use Rattle.homeo_follow.specs.Key.{definitions as follow_definitions}
 use Rattle.homeo_outline.specs.Key.{definitions as outline_definitions}
 use Rattle.homeo_outline.specs.ObjectPlan.{template_with, template_in, config_in}
 use Rattle.homeo_outline.specs.declared.plan.ObjectPlan.{ObjectPlan}
-use Rattle.homeo_outline.proofs.Leading.{at_most_both}
 use Rattle.homeo_site.specs.Key.{definitions}
 use Rattle.homeo_site.specs.inner.Failures.{sum_failure, own_failure}
 use Rattle.homeo_site.specs.OwnTreaty.{own_term, OwnClause, own_sum, SumsFit, own_clauses}
