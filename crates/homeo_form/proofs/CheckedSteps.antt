@@ -1,12 +1,13 @@
 -- Forms that are made as far as their numbers are small, one part after another.
 use Rattle.std.proofs.Common.{◌≡◌, ℕ, zero, suc, ◌+◌, ◌<◌, ◌≤◌, Option, Some, None, List, [], ◌∷◌, map, drop, take, slice_index_or, get_or, length, ℤ, pos, negsuc, refl, sym, ap, ◌∙◌, subst, arith}
+use Rattle.homeo_lemmas.proofs.Lists.{map_drop_past}
 use Rattle.homeo_syntax.specs.Key.{definitions as syntax_definitions}
 use Rattle.homeo_syntax.specs.Low as l
 use Rattle.homeo_syntax.specs.LowView.{low_exprs, plain_lexpr}
 use Rattle.homeo_syntax.specs.declared.low.LExpr.{LExpr}
 use Rattle.homeo_meaning.specs.Key.{definitions as meaning_definitions}
 use Rattle.homeo_meaning.specs.Small.{IsSmall}
-use Rattle.homeo_meaning.proofs.Steps.{drop_next, drop_none}
+use Rattle.homeo_meaning.proofs.Steps.{drop_next}
 use Rattle.homeo_plan.specs.Key.{definitions as plan_definitions}
 use Rattle.homeo_plan.specs.Each.{Each}
 use Rattle.homeo_plan.specs.FormSizes.{Numbers, CanForm, CanSum, CanProduct}
@@ -155,7 +156,7 @@ module _ (f : Forms) (es : List LExpr) where
       CanForm (IsSmall form_limit) f (l.Sum (low_exprs (map plain_lexpr es))) × (a ≡ form f (l.Sum (low_exprs (map plain_lexpr es))))
   unfolding plan_definitions syntax_definitions
   sum_end i a h s =
-      (s.can (subst (λ x. CanSum (IsSmall form_limit) f a (low_exprs x)) (sym (drop_none plain_lexpr es i h)) s.small), sum_stop f a es i h ∙ s.left)
+      (s.can (subst (λ x. CanSum (IsSmall form_limit) f a (low_exprs x)) (sym (map_drop_past plain_lexpr es i h)) s.small), sum_stop f a es i h ∙ s.left)
 
 -- ---- products
 module _ (f : Forms) (es : List LExpr) where
@@ -223,4 +224,4 @@ module _ (f : Forms) (es : List LExpr) where
       CanForm (IsSmall form_limit) f (l.Product (low_exprs (map plain_lexpr es))) × (a ≡ form f (l.Product (low_exprs (map plain_lexpr es))))
   unfolding plan_definitions syntax_definitions
   product_end i a h s =
-      (s.can (subst (λ x. CanProduct (IsSmall form_limit) f a (low_exprs x)) (sym (drop_none plain_lexpr es i h)) s.small), product_stop f a es i h ∙ s.left)
+      (s.can (subst (λ x. CanProduct (IsSmall form_limit) f a (low_exprs x)) (sym (map_drop_past plain_lexpr es i h)) s.small), product_stop f a es i h ∙ s.left)

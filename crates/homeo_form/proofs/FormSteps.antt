@@ -1,5 +1,6 @@
 -- Forms of expressions, one part after another.
 use Rattle.std.proofs.Common.{◌≡◌, ℕ, ◌+◌, ◌<◌, ◌≤◌, Box, Global, List, map, drop, get_or, length, ℤ, pos, negsuc, sym, ap, ◌∙◌, subst, arith}
+use Rattle.homeo_lemmas.proofs.Lists.{map_drop_past}
 use Rattle.homeo_syntax.specs.Key.{definitions as syntax_definitions}
 use Rattle.homeo_syntax.specs.Low as l
 use Rattle.homeo_syntax.specs.LowView.{low_exprs, plain_lexpr}
@@ -11,7 +12,7 @@ use Rattle.homeo_syntax.proofs.LowViews.{low_Literal, low_Temp, low_Read, low_Su
 use Rattle.homeo_meaning.specs.LowMeaning.{Location, TempAt, location_of}
 use Rattle.homeo_meaning.specs.Key.{definitions as meaning_definitions}
 use Rattle.homeo_meaning.specs.Small.{IsSmall}
-use Rattle.homeo_meaning.proofs.Steps.{drop_next, drop_none}
+use Rattle.homeo_meaning.proofs.Steps.{drop_next}
 use Rattle.homeo_plan.specs.Key.{definitions as plan_definitions}
 use Rattle.homeo_plan.specs.FormSizes.{Numbers, CanForm, CanSum, CanProduct}
 use Rattle.homeo_plan.specs.Linear.{Linear, Forms, constant_form, add_forms, scale_form, multiply_forms, form, sum_form, product_form}
@@ -68,7 +69,7 @@ sum_step {f} {a} es i e h p can =
 
 pub sum_stop : (f : Forms) (a : Linear) (es : List LExpr) (i : ℕ) → length es ≤ i → a ≡ sum_form f a (low_exprs (map plain_lexpr (drop i es)))
 unfolding plan_definitions syntax_definitions
-sum_stop f a es i h = sym (ap (λ l. sum_form f a (low_exprs l)) (drop_none plain_lexpr es i h))
+sum_stop f a es i h = sym (ap (λ l. sum_form f a (low_exprs l)) (map_drop_past plain_lexpr es i h))
 
 -- ---- one more factor of a product
 pub record ProductStep (f : Forms) (a : Linear) (es : List LExpr) (i : ℕ) (e : LExpr) : Type 0 where
@@ -96,7 +97,7 @@ product_step {f} {a} es i e h p can =
 
 pub product_stop : (f : Forms) (a : Linear) (es : List LExpr) (i : ℕ) → length es ≤ i → a ≡ product_form f a (low_exprs (map plain_lexpr (drop i es)))
 unfolding plan_definitions syntax_definitions
-product_stop f a es i h = sym (ap (λ l. product_form f a (low_exprs l)) (drop_none plain_lexpr es i h))
+product_stop f a es i h = sym (ap (λ l. product_form f a (low_exprs l)) (map_drop_past plain_lexpr es i h))
 
 -- ---- of each kind of expression
 module _ (f : Forms) (e : LExpr) where
