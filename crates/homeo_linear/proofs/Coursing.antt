@@ -3,6 +3,7 @@ use Rattle.homeo_plan.specs.Key.{definitions as plan_definitions}
 use Rattle.homeo_follow.specs.Key.{definitions}
 use Rattle.homeo_syntax.specs.Key.{definitions as syntax_definitions}
 use Rattle.std.proofs.Common.{◌≡◌, ℕ, ◌+◌, ◌<◌, ◌≤◌, Bool, true, false, cond, List, [], ◌∷◌, ◌++◌, map, drop, get_or, length, ℤ, sym, ap, ap₂, ◌∙◌, subst, append_assoc, append-nil, Box, Global}
+use Rattle.homeo_lemmas.proofs.Lists.{map_drop_past}
 use Rattle.homeo_syntax.specs.Low as l
 use Rattle.homeo_syntax.specs.LowView.{low_commands, plain_lexpr, plain_lcond, plain_lcommand}
 use Rattle.homeo_syntax.specs.Listed.{Listed}
@@ -13,7 +14,7 @@ use Rattle.homeo_syntax.proofs.LowViews.{low_Assign, low_Write, low_Print, low_S
 use Rattle.homeo_syntax.specs.declared.low.SplitName.{SplitName}
 use Rattle.homeo_syntax.specs.declared.low.Temp.{Temp}
 use Rattle.homeo_meaning.specs.LowMeaning.{Location, TempAt, location_of, put}
-use Rattle.homeo_meaning.proofs.Steps.{drop_next, drop_none}
+use Rattle.homeo_meaning.proofs.Steps.{drop_next}
 use Rattle.homeo_meaning.specs.Serial.{values_of}
 use Rattle.homeo_meaning.specs.Small.{IsSmall}
 use Rattle.homeo_plan.specs.FormSizes.{CanForm, CanCond}
@@ -192,7 +193,7 @@ along_next q r whole cs i c h p s e =
 pub along_end : (q whole : Followed) (cs : List LCommand) (i : ℕ) → length cs ≤ i → Along q whole cs i → q ≡ whole
 unfolding definitions syntax_definitions
 along_end q whole cs i h s =
-    then_nothing q ∙ sym (ap (λ z. and_then q (follow_all (low_commands z) q.forms)) (drop_none plain_lcommand cs i h)) ∙ s.same
+    then_nothing q ∙ sym (ap (λ z. and_then q (follow_all (low_commands z) q.forms)) (map_drop_past plain_lcommand cs i h)) ∙ s.same
 
 -- ---- from a base on
 module _ (p q : Followed) (xs db : List ℤ) (c : l.Command) (begun : p ≡ nothing (object_forms (values_of xs))) (same : xs ≡ db) where

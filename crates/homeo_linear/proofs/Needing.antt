@@ -2,6 +2,7 @@
 use Rattle.std.proofs.Common.{◌≡◌, ℕ, ◌+◌, ◌-◌, ◌<◌, ◌≤◌, ◌==◌, Bool, true, false, not, cond, List, [], ◌∷◌, ◌++◌, map, drop, get_or, length, ℤ, refl, sym, ap, ap₂, ◌∙◌, subst, add-one, drop_of_length-le, append-nil, Box, Global, arith}
 use Rattle.std.proofs.Math.Seq.{drop-cons}
 use Rattle.std.proofs.lemmas.List.{append_assoc, map_push}
+use Rattle.homeo_lemmas.proofs.Lists.{map_drop_past}
 use Rattle.homeo_syntax.specs.Key.{definitions as syntax_definitions}
 use Rattle.homeo_syntax.specs.Low as l
 use Rattle.homeo_syntax.specs.LowView.{low_commands, plain_lexpr, plain_lcommand}
@@ -16,7 +17,7 @@ use Rattle.homeo_syntax.specs.declared.low.Temp.{Temp}
 use Rattle.homeo_meaning.specs.LowMeaning.{Location, TempAt, DeltaAt, State, location_of, put, exec_all}
 use Rattle.homeo_meaning.specs.Serial.{values_of}
 use Rattle.homeo_meaning.specs.Small.{IsSmall}
-use Rattle.homeo_meaning.proofs.Steps.{drop_next, drop_none}
+use Rattle.homeo_meaning.proofs.Steps.{drop_next}
 use Rattle.homeo_plan.specs.Key.{definitions as plan_definitions}
 use Rattle.homeo_plan.specs.Each.{Each}
 use Rattle.homeo_plan.specs.FormSizes.{CanForm, CanFollow}
@@ -146,7 +147,7 @@ command_step r cs i c h p st can =
 
 pub commands_end : (r : Following) (cs : List LCommand) (i : ℕ) → length cs ≤ i → needs_of r l.NoCommand ≡ needs_of r (low_commands (map plain_lcommand (drop i cs)))
 unfolding syntax_definitions
-commands_end r cs i h = sym (ap (λ l. needs_of r (low_commands l)) (drop_none plain_lcommand cs i h))
+commands_end r cs i h = sym (ap (λ l. needs_of r (low_commands l)) (map_drop_past plain_lcommand cs i h))
 
 -- ---- loops from the end
 pub needed_place :
