@@ -7,6 +7,8 @@ use Rattle.std.specs.List.{filter_map}
 use Rattle.std.proofs.Math.Seq.{take-append_seam, drop-append_seam}
 use Rattle.std.proofs.lemmas.List.{drop-map, length-map, map-append}
 use Rattle.std.proofs.lemmas.List.Elements.{All-cons, All-nil}
+use Rattle.std.proofs.lemmas.Simd.{map-map}
+use Rattle.homeo_lemmas.proofs.Places.{get_left, get_map, All-get, get_replicate}
 use Rattle.homeo_syntax.specs.Listed.{Listed}
 use Rattle.homeo_syntax.specs.declared.list.Memory.{Memory}
 use Rattle.homeo_syntax.specs.Source as s
@@ -17,8 +19,8 @@ use Rattle.homeo_history.specs.Answers as h
 use Rattle.homeo_history.specs.HistoryView.{plain_answer}
 use Rattle.homeo_history.specs.declared.answer.Answer as memory
 use Rattle.homeo_history.specs.Legal.{IsCallAt}
-use Rattle.homeo_history.proofs.Lists.{get_left, get_map, map_map, set_cases, length_set, All-get, all_from_get}
-use Rattle.homeo_nodes.proofs.Places.{length_replicate, get_replicate}
+use Rattle.homeo_history.proofs.Lists.{set_cases, length_set, all_from_get}
+use Rattle.homeo_nodes.proofs.Places.{length_replicate}
 use Rattle.homeo_desk.specs.declared.output.Request.{Request}
 use Rattle.homeo_nodes.specs.Small.{Small}
 use Rattle.homeo_desk.specs.declared.places.Places.{Places}
@@ -122,7 +124,7 @@ pub next_called : (queue : List Request) (items ys rest : List memory.Answer) (m
 next_called queue items ys rest made is begins =
     let g : memory.Answer → CallId = λ a. h.called (plain_answer a) in
     let all = map g ys ++ g made ∷ map g rest in
-    let calls : map h.called (map plain_answer items) ≡ all = map_map h.called plain_answer items ∙ ap (map g) is ∙ map-append g ys (made ∷ rest) in
+    let calls : map h.called (map plain_answer items) ≡ all = map-map h.called plain_answer items ∙ ap (map g) is ∙ map-append g ys (made ∷ rest) in
     let long : length all ≡ length items = ap length (sym (ap (map g) is ∙ map-append g ys (made ∷ rest))) ∙ length-map items g in
     ap (take 1) (sym (drop-map (λ (r : Request). r.call) (length ys) queue))
     ∙ ap (λ k. take 1 (drop k (calls_of queue))) (sym (length-map ys g))

@@ -22,8 +22,9 @@ use Rattle.homeo_nodes.specs.Nodes.{Said, Node, Reaction, Packet, rest_of, calls
 use Rattle.homeo_nodes.specs.Small.{Small, small, grown}
 use Rattle.homeo_nodes.specs.Told.{told}
 use Rattle.homeo_nodes.proofs.Brief.{brief_closes}
-use Rattle.homeo_nodes.proofs.Places.{length_replicate, is_true, cond_true, AreThere, all_there}
+use Rattle.homeo_nodes.proofs.Places.{length_replicate, AreThere, all_there}
 use Rattle.std.proofs.lemmas.Bool.Decides.{nat_tests}
+use Rattle.std.proofs.lemmas.Bool.{eqb-true, cond-true}
 use Rattle.homeo_live.specs.Key.{definitions as live_definitions}
 use Rattle.homeo_live.specs.declared.packet.Step.TheVariants as live
 use Rattle.homeo_live.specs.declared.packet.Step.{Step}
@@ -51,7 +52,7 @@ own_first u i said queue first begins = go (eqb i u.site) refl
   where
     go : (t : Bool) → eqb i u.site ≡ t →
         let own = cond t (u.call ∷ []) [] ++ cond t (rest_of said.calls) said.calls in take (length own) queue ≡ own
-    go true e = first_of queue said.calls u.call (first (sym (is_true i u.site e))) begins
+    go true e = first_of queue said.calls u.call (first (sym (eqb-true i u.site e))) begins
     go false e = begins
 
 said_is : (o : Option Said) (x : Said) (queue : List CallId) → o ≡ Some x → HasSaid o queue → take (length x.calls) queue ≡ x.calls
@@ -276,7 +277,7 @@ module _ (x : Small) (call : CallId) (room : length x.queue < 64) where
   pub asked_is : asked call (grown x) ≡ waits
   unfolding definitions
   asked_is =
-      cond_true (nat_lt (length x.queue) 64) waits (n.stays (grown x) n.Held) (let t : nat_lt (length x.queue) 64 ≡ true = grind (arith, nat_tests, room) in t)
+      cond-true (nat_lt (length x.queue) 64) waits (n.stays (grown x) n.Held) (let t : nat_lt (length x.queue) 64 ≡ true = grind (arith, nat_tests, room) in t)
 
   pub asked_told : told (grown x) (asked call (grown x)).step ≡ []
   unfolding definitions

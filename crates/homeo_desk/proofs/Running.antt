@@ -7,7 +7,10 @@ use Rattle.std.specs.Prelude.{slice_get, ◌⊎◌, All, Contains, IsSome, optio
 use Rattle.std.specs.List.{range_with_len}
 use Rattle.std.specs.Option.{option_and_then, option_map_or}
 use Rattle.std.proofs.lemmas.Bool.Decides.{nat_tests}
+use Rattle.std.proofs.lemmas.Option.{slice_get_within}
+use Rattle.std.proofs.lemmas.Bool.{cases_eq, eq-eqb, ne_eqb, cond-true, cond-false}
 use mathlib.Core.Logic.{⊎_elim}
+use Rattle.homeo_lemmas.proofs.Places.{get_map, one_placed, All-get}
 use Rattle.homeo_syntax.specs.Source as s
 use Rattle.homeo_syntax.specs.SourceView.{plain_workload}
 use Rattle.homeo_syntax.specs.declared.workload.Workload.{Workload}
@@ -17,13 +20,12 @@ use Rattle.homeo_plan.specs.Planned.{sites_of}
 use Rattle.homeo_history.specs.Answers as h
 use Rattle.homeo_history.specs.Legal.{IsCallAt, client_site, call_count}
 use Rattle.homeo_history.proofs.ClientAnswers.{client_at}
-use Rattle.homeo_history.proofs.Lists.{get_lt, get_some, get_map, get_map_back, get_index, get_same, get_set_same, get_set_other, All-get}
+use Rattle.homeo_history.proofs.Lists.{get_some, get_map_back, get_index, get_set_same, get_set_other}
 use Rattle.homeo_nodes.specs.Nodes as n
 use Rattle.homeo_nodes.specs.Nodes.{Node, World, Event, Ask, Serve, Deliver, Tick, Input, Asked, Served, Came, Withdrew, Ticked, reaction, place_of, happens, after, at_start, reached, is_listed, first_node}
 use Rattle.homeo_nodes.specs.Small.{Small, small, grown, small_after}
 use Rattle.homeo_nodes.specs.Told.{told, told_by_node, told_here, told_in}
 use Rattle.homeo_nodes.proofs.Smaller.{same_reactions}
-use Rattle.homeo_nodes.proofs.Places.{same_or_not, test_true, test_false, cond_true, cond_false}
 use Rattle.homeo_desk.specs.DeskView.{DeskValue, calls_of}
 use Rattle.homeo_desk.specs.Moves.{reacts, sent_after, told_after, IsOf, AreOf}
 use Rattle.homeo_desk.specs.Outputs.{AreIn, AreTold, none, packets_of}
@@ -38,7 +40,7 @@ number_in calls (suc k) h = (omega arith, go (slice_get calls k) refl h)
   where
     go : (o : Option s.Call) → slice_get calls k ≡ o → IsSome o → suc k ≤ length calls
     go None e i = absurd (cc)
-    go (Some x) e i = let lt = get_lt calls k x e in omega arith
+    go (Some x) e i = let lt = slice_get_within calls k x e in omega arith
 
 count_in : (o : Option s.Client) (seq : ℕ) → IsSome (option_and_then (λ (client : s.Client). numbered seq client.calls) o) → (0 < seq) × (seq ≤ option_map_or (λ (client : s.Client). length client.calls) o 0)
 count_in None seq h = absurd (cc)
@@ -70,7 +72,7 @@ module _ (w : s.Workload) (i : ℕ) where
         let k = at_place calls call is in
         let one : IsCallAt w i call = All-get (IsCallAt w i) calls k.0 call at k.1 in (
           Ask call,
-          cond_true (is_listed w call) (option_map (λ home. record { site = home; input = Asked call }) (client_site w call.client)) None (listed w i call one)
+          cond-true (is_listed w call) (option_map (λ home. record { site = home; input = Asked call }) (client_site w call.client)) None (listed w i call one)
               ∙ ap (option_map (λ home. record { site = home; input = Asked call })) (client_at w call i one.at_site),
         )
     event_of Served is = (Serve i, refl)
@@ -133,7 +135,7 @@ module _ (w : s.Workload) (i : ℕ) where
     unfolding definitions
     here_own =
         ap (told_here w i y) at
-        ∙ cond_true (eqb i i) _ [] (test_true i i refl)
+        ∙ cond-true (eqb i i) _ [] (eq-eqb i i refl)
         ∙ ap (n_told input) here
       where
         n_told : Input → Option Node → List h.Answer
@@ -141,7 +143,7 @@ module _ (w : s.Workload) (i : ℕ) where
 
     here_none : (k : ℕ) → (k ≡ i → ⊥) → told_here w k y (place_of w y e) ≡ []
     unfolding definitions
-    here_none k other = ap (told_here w k y) at ∙ cond_false (eqb i k) _ [] (test_false i k (λ f. other (sym f)))
+    here_none k other = ap (told_here w k y) at ∙ cond-false (eqb i k) _ [] (ne_eqb i k (λ f. other (sym f)))
 
   leads : (calls : List CallId) (inputs : List Input) (ps : List n.Packet) (y : World) (x : Small) (m : Node) → All (IsCallAt w i) calls → slice_get y.nodes i ≡ Some m → small m ≡ x →
       AreIn ps y.packets → AreOf w calls ps inputs x → Leads y x inputs
@@ -258,13 +260,13 @@ module _ (work : Workload) (x y : Desks) (led : IsLed work x) (moves : Moves x y
   reached_is = after_both w led.events went.events (at_start w)
 
   desk_at : (k : ℕ) (t : Told) → slice_get y.desks k ≡ Some t → ((k ≡ i) × (next ≡ t)) ⊎ ((k ≡ i → ⊥) × (slice_get x.desks k ≡ Some t))
-  desk_at k t e = ⊎_elim (λ f. inl (f, own f)) (λ other. inr (other, sym (get_set_other x.desks i k next other) ∙ is_set)) (same_or_not k i)
+  desk_at k t e = ⊎_elim (λ f. inl (f, own f)) (λ other. inr (other, sym (get_set_other x.desks i k next other) ∙ is_set)) (cases_eq k i)
     where
       is_set : slice_get (slice_set x.desks i next) k ≡ Some t
       is_set = ap (λ (v : Desks). slice_get v.desks k) (sym moves.then) ∙ e
 
       own : k ≡ i → next ≡ t
-      own f = get_same (slice_set x.desks i next) i next t (get_set_same x.desks i moves.old next moves.here) (subst (λ j. slice_get (slice_set x.desks i next) j ≡ Some t) f is_set)
+      own f = one_placed (slice_set x.desks i next) i next t (get_set_same x.desks i moves.old next moves.here) (subst (λ j. slice_get (slice_set x.desks i next) j ≡ Some t) f is_set)
 
   node_is : moves.new.node ≡ small_after w inputs old.node
   node_is = moves.move.node ∙ ap (λ v. small_after v inputs old.node) same_work

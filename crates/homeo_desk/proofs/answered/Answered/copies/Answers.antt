@@ -1,7 +1,7 @@
 use Rattle.std.proofs.Common.{◌∷◌, [], ◌++◌, map, option_map, take, ap, sym, ◌∙◌}
 use Rattle.std.specs.List.{filter_map}
 use Rattle.std.proofs.lemmas.List.Elements.{filter_map-append}
-use Rattle.homeo_meaning.proofs.TakenItems.{take_next}
+use Rattle.homeo_lemmas.proofs.Lists.{map_take_more}
 use Rattle.homeo_desk.specs.DeskView.{plain_reply}
 use Rattle.homeo_desk.proofs.answered.Answered.copies.Goals as goal
 
@@ -13,4 +13,4 @@ loop-answer-preserved c =
     c.in_ok-copy_some.ensures
     ∙ ap (λ l. l ++ filter_map (λ o. o) (option_map plain_reply x ∷ [])) c.loop-answer.invariant
     ∙ sym (filter_map-append (λ o. o) (map (option_map plain_reply) (take i items)) (option_map plain_reply x ∷ []))
-    ∙ ap (filter_map (λ o. o)) (sym (take_next (option_map plain_reply) items i x c.loop-answer-test.true c.answer-item.is))
+    ∙ ap (filter_map (λ o. o)) (sym (map_take_more (option_map plain_reply) items i x c.loop-answer-test.true c.answer-item.is))

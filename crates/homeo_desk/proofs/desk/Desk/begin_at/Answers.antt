@@ -1,8 +1,8 @@
 use Rattle.std.proofs.Common.{◌≡◌, replicate, None, length, ap, sym, subst, ◌∙◌}
+use Rattle.homeo_lemmas.proofs.Options.{if_some}
 use Rattle.homeo_syntax.specs.SourceView.{plain_workload}
 use Rattle.homeo_syntax.specs.declared.workload.Workload.{Workload}
 use Rattle.homeo_live.specs.LiveView.{LiveValue, plain_node}
-use Rattle.homeo_live.proofs.Begun.{if_some}
 use Rattle.homeo_desk.specs.DeskView.{calls_of}
 use Rattle.homeo_desk.specs.inner.Keeping.{AreLast}
 use Rattle.homeo_desk.proofs.Keeping.{begun_kept}
