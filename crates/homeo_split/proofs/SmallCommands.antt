@@ -1,6 +1,7 @@
 -- A command whose numbers are small can be run.
-use Rattle.std.proofs.Common.{◌≡◌, ℕ, ◌≤◌, ℤ, pos, ◌+ℤ◌, ◌*ℤ◌, neg_ℤ, Bool, true, false, cond, ◌&&◌, refl, ap₂, arith}
+use Rattle.std.proofs.Common.{◌≡◌, ℕ, ◌≤◌, ℤ, pos, ◌+ℤ◌, ◌*ℤ◌, neg_ℤ, true, refl, arith}
 use Rattle.std.proofs.lemmas.Bool.Decides.{nat_tests}
+use Rattle.homeo_lemmas.proofs.Bools.{cond_holds, both}
 use Rattle.homeo_syntax.specs.Low.{Expr, Exprs, Literal, OfTemp, Read, Sum, Product, Neg, NoExpr, MoreExpr, Test, Cond, True, Not, Comparison, NoTest, MoreTest, Command, Commands, Skip, Assign, Write, Print, Seq, If, NoCommand, MoreCommand}
 use Rattle.homeo_meaning.specs.Key.{definitions as meaning_definitions}
 use Rattle.homeo_meaning.specs.Small.{is_small}
@@ -9,15 +10,6 @@ use Rattle.homeo_meaning.specs.LowComputed.{CanValue, CanSum, CanProduct, CanPas
 use Rattle.homeo_meaning.specs.Small.{IsSmall}
 use Rattle.homeo_split.specs.Key.{definitions}
 use Rattle.homeo_split.specs.CanExec.{run_limit, expr_fits, sum_fits, product_fits, test_fits, cond_fits, can_exec, can_exec_all}
-
--- what both tests say
-both : {a b : Bool} → a ≡ true → b ≡ true → (a && b) ≡ true
-both e f = ap₂ ◌&&◌ e f
-
--- whichever branch is taken
-either : (t a b : Bool) → a ≡ true → b ≡ true → cond t a b ≡ true
-either true a b e f = e
-either false a b e f = f
 
 module _ (b : ℕ) (h : b ≤ run_limit) where
   small : (v : ℤ) → IsSmall b v → is_small run_limit v ≡ true
@@ -61,7 +53,7 @@ module _ (b : ℕ) (h : b ≤ run_limit) where
 
     hold_fits : (d : Cond) (s : State) → CanHold (IsSmall b) (IsSmall b) d s → cond_fits run_limit d s ≡ true
     hold_fits NoTest s c = refl
-    hold_fits (MoreTest t d) s c = both (pass_fits t s c.0) (either (passes t s) _ _ (hold_fits d s c.1) refl)
+    hold_fits (MoreTest t d) s c = both (pass_fits t s c.0) (cond_holds (passes t s) _ _ (hold_fits d s c.1) refl)
 
   mutual
     unfolding definitions meaning_definitions
@@ -72,7 +64,7 @@ module _ (b : ℕ) (h : b ≤ run_limit) where
     run_fits (Write x e) s p = value_fits e s p
     run_fits (Print e) s p = value_fits e s p
     run_fits (Seq cs) s p = runs_fit cs s p
-    run_fits (If t c d) s p = both (hold_fits t s p.0) (either (holds t s) _ _ (run_fits c s p.1) (run_fits d s p.2))
+    run_fits (If t c d) s p = both (hold_fits t s p.0) (cond_holds (holds t s) _ _ (run_fits c s p.1) (run_fits d s p.2))
 
     runs_fit : (cs : Commands) (s : State) → CanRunAll (IsSmall b) (IsSmall b) cs s → can_exec_all run_limit cs s ≡ true
     runs_fit NoCommand s p = refl
