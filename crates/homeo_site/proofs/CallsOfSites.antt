@@ -2,6 +2,7 @@
 use Rattle.std.proofs.Common.{◌≡◌, ℕ, zero, suc, ◌<◌, List, [], ◌∷◌, ◌++◌, map, length, slice_get, ℤ, Some, All, refl, sym, ap, ◌∙◌, arith}
 use Rattle.std.specs.Option.{option_map, option_map_or}
 use Rattle.std.proofs.lemmas.List.Elements.{All-head, All-tail}
+use Rattle.std.proofs.lemmas.Option.{same_Some}
 use Rattle.homeo_syntax.specs.Low.{Skip}
 use Rattle.homeo_syntax.specs.Source as s
 use Rattle.homeo_meaning.specs.Key.{definitions as meaning_definitions}
@@ -21,15 +22,12 @@ use Rattle.homeo_history.specs.History.{Entry}
 use Rattle.homeo_history.specs.Legal.{IsCallAt}
 use Rattle.homeo_history.specs.Replayed.{deltas_after, end_of, KeepsOne, KeepsAll}
 
-same_in_some : (a b : ℕ) → Some a ≡ Some b → a ≡ b
-same_in_some a b e = cc
-
 pub call_site : (w : s.Workload) (i : ℕ) (call : CallId) → IsCallAt w i call → (planned_at w call).site ≡ i
 unfolding plan_definitions meaning_definitions history_definitions
 call_site w i call h =
     let n : KnownCall w call = known w call h.exists in
     ap (λ (g : PlannedCall). g.site) (planned_is w call n)
-    ∙ same_in_some _ i (sym (ap (λ o. option_map (λ (client : s.Client). nat_of client.site.value) o) n.found) ∙ h.at_site)
+    ∙ same_Some _ i (sym (ap (λ o. option_map (λ (client : s.Client). nat_of client.site.value) o) n.found) ∙ h.at_site)
 
 pub planned_calls :
     (w : s.Workload) (i : ℕ) (es : List Entry) → All (λ e. IsCallAt w i e.call) es →

@@ -1,6 +1,7 @@
 -- How many sites and objects an accepted workload has.
-use Rattle.std.proofs.Common.{◌≡◌, ◌≤◌, Bool, true, false, ◌||◌, List, [], ◌∷◌, length, ℤ, pos, negsuc, int_lt, sym, refl, ◌∙◌, subst, arith}
+use Rattle.std.proofs.Common.{◌≡◌, ◌≤◌, Bool, true, false, ◌||◌, List, [], length, ℤ, pos, negsuc, int_lt, sym, refl, ◌∙◌, subst, arith}
 use Rattle.std.proofs.lemmas.Int.{ints}
+use Rattle.homeo_lemmas.proofs.Lists.{not_nil}
 use Rattle.homeo_syntax.specs.Source as s
 use Rattle.homeo_meaning.specs.Key.{definitions as meaning_definitions}
 use Rattle.homeo_meaning.specs.declared.call.Purpose.TheVariants.{Run}
@@ -15,9 +16,6 @@ use Rattle.homeo_meaning.proofs.Within.{length_in}
 use Rattle.homeo_lform.proofs.ObjectBounds.{bounds_count}
 use Rattle.homeo_plan.specs.Key.{definitions as plan_definitions}
 use Rattle.homeo_plan.specs.Planned.{sites_of}
-
-not_nil : {X : Type 0} (x : X) (xs : List X) → x ∷ xs ≡ [] → ⊥
-not_nil x xs e = cc
 
 at_most_16 : (z : ℤ) → int_lt (pos 16) z ≡ false → nat_of z ≤ 16
 at_most_16 (pos n) q = omega (arith, ints, q)

@@ -8,6 +8,8 @@ use Rattle.std.proofs.lemmas.Nat.{mul-le}
 use Rattle.std.proofs.lemmas.Bool.{cases_lt}
 use Rattle.std.proofs.lemmas.Bool.Decides.{nat_tests}
 use Rattle.std.proofs.lemmas.List.Elements.{All-nil, All-cons}
+use Rattle.homeo_lemmas.proofs.Integers.{times_zero}
+use Rattle.homeo_lemmas.proofs.Naturals.{suc_times}
 use Rattle.homeo_meaning.specs.Key.{definitions as meaning_definitions}
 use Rattle.homeo_meaning.specs.Small.{IsSmall}
 use Rattle.homeo_plan.specs.Key.{definitions as plan_definitions}
@@ -91,12 +93,6 @@ take_factors (suc k) [] h = tt
 take_factors (suc k) (t ∷ ts) h = (h.0, take_factors k ts h.1)
 
 -- ---- sums
-suc_times : (a b : ℕ) → suc a * b ≡ b + a * b
-suc_times a b = grind arith
-
-times_zero : (z : ℤ) → z *ℤ pos 0 ≡ pos 0
-times_zero z = omega (arith, ints)
-
 module _ (n size : ℕ) (x : Deltas) (small : (m : ℕ) → unsigned_abs (x m) ≤ size) (past : (m : ℕ) → n ≤ m → x m ≡ pos 0) where
   abbrev most : ℕ
   most = factor_limit * size

@@ -7,6 +7,7 @@ use Rattle.std.proofs.Math.Nat.{add-mul, div-mul-le_self}
 use Rattle.std.proofs.Math.Seq.{take-length}
 use Rattle.std.proofs.lemmas.List.{map_more, take-map, get_or-map, length-map}
 use Rattle.std.proofs.lemmas.Nat.{le-div}
+use Rattle.homeo_lemmas.proofs.Integers.{is_plus_zero}
 use Rattle.homeo_syntax.specs.Listed.{Listed}
 use Rattle.homeo_plan.specs.Key.{definitions as plan_definitions}
 use Rattle.homeo_plan.specs.declared.forms.Term.{Term}
@@ -42,12 +43,9 @@ pub sum_next :
     next ≡ sum +ℤ ((get_or ts k d).factor *ℤ x (get_or ts k d).delta.object) → next ≡ own_sum (map own_term (take (k + 1) ts)) x
 unfolding definitions
 sum_next ts k d x sum next lt so_far e =
-    e ∙ ap₂ ◌+ℤ◌ so_far (last ((get_or ts k d).factor *ℤ x (get_or ts k d).delta.object))
+    e ∙ ap₂ ◌+ℤ◌ so_far (is_plus_zero ((get_or ts k d).factor *ℤ x (get_or ts k d).delta.object))
     ∙ sym (sum_append (map own_term (take k ts)) (own_term (get_or ts k d) ∷ []) x)
     ∙ ap (λ us. own_sum us x) (sym (map_more own_term ts k d lt))
-  where
-    last : (z : ℤ) → z ≡ z +ℤ pos 0
-    last z = omega (arith, ints)
 
 pub product_fits :
     (ts : List Term) (k : ℕ) (d : Term) (x : Deltas) → k < length ts → SumsFit (map own_term ts) x →

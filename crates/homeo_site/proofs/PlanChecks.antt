@@ -1,5 +1,5 @@
 -- What fails first of what stands on the objects that a call wrote is what fails first of the site's whole treaty, where that held before.
-use Rattle.std.proofs.Common.{◌≡◌, ◌⊎◌, ℕ, zero, suc, ◌+◌, ◌-◌, ◌<◌, ◌≤◌, ◌==◌, Bool, true, false, cond, not, ◌&&◌, nat_lt, List, [], ◌∷◌, map, length, get_or, ℤ, pos, ◌≤ℤ◌, int_le, Option, Some, None, refl, sym, ap, ap₂, ◌∙◌, subst, inl, inr, ⊎_elim, arith}
+use Rattle.std.proofs.Common.{◌≡◌, ◌⊎◌, ℕ, zero, suc, ◌+◌, ◌-◌, ◌<◌, ◌≤◌, ◌==◌, Bool, true, false, cond, not, ◌&&◌, nat_lt, List, [], ◌∷◌, map, length, get_or, ℤ, pos, ◌≤ℤ◌, int_le, Option, Some, None, refl, sym, ap, ap₂, ◌∙◌, subst, inl, inr, ⊎_elim, arith, zero-add}
 use Rattle.std.specs.Ordering.{int_eq}
 use Rattle.std.proofs.lemmas.Int.{ints}
 use Rattle.std.proofs.lemmas.Bool.Decides.{nat_tests}
@@ -214,10 +214,7 @@ module _ (p : ObjectPlan) (i : ℕ) (site : i < p.outline.value.sites) (x y : De
         same_earliest clause_number (failure_at t (config_in p) i y) (Within 0 all) o _
         (earliest_alike clause_number (plan_failure p i y) (failure_at t (config_in p) i y) (Within 0 all) o (λ n l. plan_fails n (omega (arith, l.1)))
         (on_all p clause_number (plan_failure p i y) ws k le silent o h))
-        (clauses_earliest (failure_at t (config_in p) i y) i y x 0 t.clauses (config_in p) t.freezes (λ m. ap (failure_at t (config_in p) i y) (zero_on m)) keeps.clauses)
-      where
-        zero_on : (m : ℕ) → 0 + m ≡ m
-        zero_on m = omega arith
+        (clauses_earliest (failure_at t (config_in p) i y) i y x 0 t.clauses (config_in p) t.freezes (λ m. ap (failure_at t (config_in p) i y) (zero-add m)) keeps.clauses)
 
 -- ---- what fails earliest of what stands on an object
 module _

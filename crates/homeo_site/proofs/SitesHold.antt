@@ -1,7 +1,9 @@
 -- What a site keeps holds at the start of a round, and after each call that keeps its treaty.
-use Rattle.std.proofs.Common.{◌≡◌, ℕ, zero, suc, ◌<◌, List, length, get_or, replicate, ℤ, pos, refl, sym, ap, ◌∙◌, subst}
+use Rattle.std.proofs.Common.{◌≡◌, ℕ, ◌<◌, List, length, replicate, ℤ, pos, refl, sym, ap, ◌∙◌, subst}
 use mathlib.Core.Path.{fun_ext}
 use Rattle.std.proofs.lemmas.List.Elements.{All-nil, All-push}
+use Rattle.homeo_lemmas.proofs.Lists.{length_zeros}
+use Rattle.homeo_lemmas.proofs.Places.{zeros_at}
 use Rattle.homeo_syntax.specs.Source as s
 use Rattle.homeo_meaning.specs.declared.call.CallId.{CallId}
 use Rattle.homeo_meaning.specs.Acceptance.{IsAccepted}
@@ -23,15 +25,6 @@ use Rattle.homeo_site.specs.SiteState.{SiteState, SiteHolds, KeepsCall, local_en
 use Rattle.homeo_site.proofs.CallsOfSites.{end_more, keeps_more}
 use Rattle.homeo_site.proofs.LocalSteps.{count_like, ready, step_list}
 
-zeros_at : (n x : ℕ) → get_or (replicate n (pos 0)) x (pos 0) ≡ pos 0
-zeros_at zero x = refl
-zeros_at (suc n) zero = refl
-zeros_at (suc n) (suc x) = zeros_at n x
-
-zeros_count : (n : ℕ) → length (replicate n (pos 0)) ≡ n
-zeros_count zero = refl
-zeros_count (suc n) = ap suc (zeros_count n)
-
 zeros_are : (n : ℕ) → no_deltas ≡ values_of (replicate n (pos 0))
 unfolding plan_definitions
 zeros_are n = fun_ext (λ x. sym (zeros_at n x))
@@ -44,7 +37,7 @@ begun_holds w number round base accepted site within =
     record {
       site = site;
       within = within;
-      count = zeros_count (length base);
+      count = length_zeros (length base);
       meets =
           subst (MeetsTreaty w base number) (zeros_are (length base))
           (zero_keeps (sites_of w) (template_at w base) (policy w base) number (policy_fits w base accepted));
