@@ -2,14 +2,11 @@
 use Rattle.std.proofs.Common.{◌≡◌, ℕ, zero, suc, ◌+◌, ◌<◌, Bool, true, false, ◌||◌, List, [], ◌∷◌, ◌++◌, drop, get_or, length, refl, sym, ap, ◌∙◌, subst, arith}
 use Rattle.std.specs.List.Sorted.{IsPermutation}
 use Rattle.std.proofs.lemmas.List.Sorted.{list_any-IsPermutation}
+use Rattle.homeo_lemmas.proofs.Bools.{or_false}
 use Rattle.homeo_plan.specs.Key.{definitions as plan_definitions}
 use Rattle.homeo_plan.specs.Linear.{AreInOrder, same_delta, delta_before, add_delta, add_deltas}
 use Rattle.homeo_plan.specs.declared.forms.Delta.{Delta}
 use Rattle.homeo_plan.proofs.DeltaLists.{has, has_adds, or_move, after_before, in_order_adds, same_deltas}
-
-pub or_none : (b : Bool) → (b || false) ≡ b
-or_none true = refl
-or_none false = refl
 
 or_comm : (a b : Bool) → (a || b) ≡ (b || a)
 or_comm true true = refl
@@ -20,7 +17,7 @@ or_comm false false = refl
 -- ---- what they are put together
 same_by : (ds es : List Delta) → AreInOrder es → ((d : Delta) → has d es ≡ has d ds) → es ≡ add_deltas ds []
 unfolding plan_definitions
-same_by ds es o h = same_deltas es (add_deltas ds []) o (in_order_adds ds [] tt) (λ d. h d ∙ sym (has_adds d ds [] ∙ or_none (has d ds)))
+same_by ds es o h = same_deltas es (add_deltas ds []) o (in_order_adds ds [] tt) (λ d. h d ∙ sym (has_adds d ds [] ∙ or_false (has d ds)))
 
 pub in_order_kept : (ds : List Delta) → AreInOrder ds → ds ≡ add_deltas ds []
 in_order_kept ds o = same_by ds ds o (λ d. refl)
@@ -29,7 +26,7 @@ pub permuted_same : (ds es : List Delta) → IsPermutation ds es → add_deltas 
 unfolding plan_definitions
 permuted_same ds es p =
     same_by ds (add_deltas es []) (in_order_adds es [] tt)
-    (λ d. has_adds d es [] ∙ or_none (has d es) ∙ sym (list_any-IsPermutation (same_delta d) ds es p))
+    (λ d. has_adds d es [] ∙ or_false (has d es) ∙ sym (list_any-IsPermutation (same_delta d) ds es p))
 
 pub adds_swap : (ds es : List Delta) → AreInOrder ds → AreInOrder es → add_deltas ds es ≡ add_deltas es ds
 adds_swap ds es o p =

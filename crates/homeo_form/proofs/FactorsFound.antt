@@ -2,6 +2,7 @@
 use Rattle.std.proofs.Common.{◌≡◌, ℕ, zero, suc, ◌<◌, ◌≤◌, Bool, true, false, cond, List, [], ◌∷◌, take, drop, slice_index_or, length, ℤ, pos, ◌+ℤ◌, refl, sym, ap, ◌∙◌, subst, arith}
 use Rattle.std.specs.List.Sorted.{IsPartitionedBy}
 use Rattle.std.proofs.lemmas.Bool.Decides.{nat_tests}
+use Rattle.homeo_lemmas.proofs.Integers.{zero_plus, plus_zero}
 use Rattle.homeo_plan.specs.Key.{definitions as plan_definitions}
 use Rattle.homeo_plan.specs.Each.{Each}
 use Rattle.homeo_plan.specs.Linear.{AreInOrder, same_delta, delta_before, deltas_of}
@@ -14,7 +15,7 @@ use Rattle.homeo_form.proofs.Adding.{length_deltas}
 use Rattle.homeo_plan.proofs.DeltaLists.{After, after_before}
 use Rattle.homeo_plan.proofs.Factors.{same_delta_is, before_total, before_trans}
 use Rattle.homeo_form.proofs.Orders.{before_is_other}
-use Rattle.homeo_form.proofs.TermsAddedUp.{add_zero, zero_add, above_none}
+use Rattle.homeo_form.proofs.TermsAddedUp.{above_none}
 
 -- ---- the place
 after_at : (c : Delta) (ts : List Term) (n : ℕ) (x : Term) → n < length ts → After c (deltas_of ts) → delta_before c (slice_index_or ts n x).delta ≡ true
@@ -56,7 +57,7 @@ place_found d ts n x l h k =
 -- ---- the factor
 passed : (d : Delta) (t : Term) (ts : List Term) (z : ℤ) → delta_before t.delta d ≡ true → factor_at d ts ≡ z → factor_at d (t ∷ ts) ≡ z
 unfolding definitions
-passed d t ts z b h = ap (λ v. cond v t.factor (pos 0) +ℤ factor_at d ts) (before_is_other d t.delta b) ∙ add_zero (factor_at d ts) ∙ h
+passed d t ts z b h = ap (λ v. cond v t.factor (pos 0) +ℤ factor_at d ts) (before_is_other d t.delta b) ∙ zero_plus (factor_at d ts) ∙ h
 
 swapped : (d e : Delta) → same_delta d e ≡ false → same_delta e d ≡ false
 unfolding plan_definitions
@@ -75,7 +76,7 @@ at_place : (d : Delta) (ts : List Term) (n : ℕ) (x : Term) → AreInOrder (del
     BeginsBehind d (drop n (deltas_of ts)) → factor_at d ts ≡ share d (slice_index_or ts n x).delta (slice_index_or ts n x).factor
 unfolding definitions plan_definitions
 at_place d [] n x o l h b = absurd (omega (arith, l))
-at_place d (t ∷ ts) zero x o l h b = ap (λ z. share d t.delta t.factor +ℤ z) (none_more d t ts o b) ∙ zero_add (share d t.delta t.factor)
+at_place d (t ∷ ts) zero x o l h b = ap (λ z. share d t.delta t.factor +ℤ z) (none_more d t ts o b) ∙ plus_zero (share d t.delta t.factor)
 at_place d (t ∷ ts) (suc n) x o l h b = passed d t ts _ h.0 (at_place d ts n x o.1 (omega (arith, l)) h.1 b)
 
 past_all : (d : Delta) (ts : List Term) (n : ℕ) → length ts ≤ n → Each (λ e. delta_before e d ≡ true) (take n (deltas_of ts)) → factor_at d ts ≡ pos 0

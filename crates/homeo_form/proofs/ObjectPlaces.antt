@@ -3,6 +3,7 @@ use Rattle.std.proofs.Common.{◌≡◌, ◌==◌, ℕ, zero, suc, ◌<◌, ◌�
 use Rattle.std.proofs.lemmas.Bool.Decides.{nat_tests}
 use Rattle.std.specs.declared.option.Option.{Option}
 use Rattle.std.specs.declared.option.Option.TheVariants.{None, Some}
+use Rattle.homeo_lemmas.proofs.Naturals.{nat_itself}
 use Rattle.homeo_plan.specs.Linear.{Linear}
 use Rattle.homeo_form.specs.declared.objects.ObjectForm.{ObjectForm}
 use Rattle.homeo_form.specs.declared.objects.ObjectForms.{ObjectForms}
@@ -33,10 +34,7 @@ some_there false a = refl
 pub same_there : (x n : ℕ) (a : Linear) (fs : List ObjectForm) → true ≡ is_some (form_there x n fs) → form_there x n (set fs n (some x a)) ≡ Some a
 unfolding definitions
 same_there x n a [] h = absurd (true≢false h)
-same_there x zero a (p ∷ fs) h = ap (λ b. cond b (Some a) None) (same x)
-  where
-    same : (x : ℕ) → (x == x) ≡ true
-    same x = grind (arith, nat_tests)
+same_there x zero a (p ∷ fs) h = ap (λ b. cond b (Some a) None) (nat_itself x)
 same_there x (suc n) a (p ∷ fs) h = same_there x n a fs h
 
 pub others_there :
@@ -56,10 +54,7 @@ others_there x y (suc n) (suc m) a (p ∷ fs) k h = others_there x y n m a fs k 
 -- ---- one behind the others
 pub last_there : (x : ℕ) (a : Linear) (fs : List ObjectForm) → form_there x (length fs) (fs ++ some x a ∷ []) ≡ Some a
 unfolding definitions
-last_there x a [] = ap (λ b. cond b (Some a) None) (same x)
-  where
-    same : (x : ℕ) → (x == x) ≡ true
-    same x = grind (arith, nat_tests)
+last_there x a [] = ap (λ b. cond b (Some a) None) (nat_itself x)
 last_there x a (p ∷ fs) = last_there x a fs
 
 pub before_last : (x y m : ℕ) (a : Linear) (fs : List ObjectForm) → (x == y) ≡ false → form_there y m (fs ++ some x a ∷ []) ≡ form_there y m fs

@@ -1,14 +1,14 @@
 -- Sums of forms whose numbers are small: one more form, and the factors of its deltas.
 use Rattle.std.proofs.Common.{◌≡◌, ℕ, ◌+◌, ◌<◌, ◌≤◌, Bool, true, false, cond, ◌&&◌, ◌==◌, Some, List, [], ◌∷◌, ◌++◌, take, drop, get_or, length, ℤ, pos, ◌+ℤ◌, refl, sym, ap, ap₂, ◌∙◌, subst, add-one, drop_of_length-le, length-append, arith}
 use Rattle.std.proofs.Math.Seq.{drop-cons}
-use Rattle.std.specs.declared.cmp.Ordering.{Ordering}
-use Rattle.std.specs.declared.cmp.Ordering.TheVariants.{Less, Equal, Greater}
 use Rattle.std.specs.BTreeMap.{get}
 use Rattle.std.specs.Map.{lookup}
 use Rattle.std.specs.Option.{unwrap_or}
-use Rattle.std.specs.Ordering.{nat_cmp, ordering_then, is_eq}
+use Rattle.std.specs.Ordering.{nat_cmp, is_eq}
 use Rattle.std.proofs.lemmas.Bool.Decides.{nat_tests}
 use Rattle.std.proofs.lemmas.List.{take_all, take-append-le}
+use Rattle.homeo_lemmas.proofs.Bools.{then_equal}
+use Rattle.homeo_lemmas.proofs.Integers.{zero_plus, plus_zero}
 use Rattle.homeo_meaning.specs.Key.{definitions as meaning_definitions}
 use Rattle.homeo_meaning.specs.Small.{IsSmall}
 use Rattle.homeo_plan.specs.Key.{definitions as plan_definitions}
@@ -23,7 +23,7 @@ use Rattle.homeo_form.specs.inner.Terms.{AreSmall, share, factor_at}
 use Rattle.homeo_form.proofs.Adding.{order_adds}
 use Rattle.homeo_plan.proofs.Factors.{same_delta_is}
 use Rattle.homeo_form.proofs.FormParts.{form_of, AreFormParts, small_terms, small_constant, both_small}
-use Rattle.homeo_form.proofs.TermsAddedUp.{adds_append as terms_append, add_zero, zero_add, add_assoc, add_swap, at_adds, above_none, first_at}
+use Rattle.homeo_form.proofs.TermsAddedUp.{adds_append as terms_append, add_assoc, add_swap, at_adds, above_none, first_at}
 
 -- ---- numbers that are small at each delta
 pub zero_small : IsSmall form_limit (pos 0)
@@ -42,8 +42,8 @@ small_at_each [] o s d = zero_small
 small_at_each (t ∷ ts) o s d = go (same_delta d t.delta) refl (small_at_each ts o.1 s.1 d)
   where
     go : (v : Bool) → same_delta d t.delta ≡ v → IsSmall form_limit (factor_at d ts) → IsSmall form_limit (cond v t.factor (pos 0) +ℤ factor_at d ts)
-    go true h ih = subst (IsSmall form_limit) (sym (ap (λ z. t.factor +ℤ z) (none_behind d t ts o h) ∙ zero_add t.factor)) s.0
-    go false h ih = subst (IsSmall form_limit) (sym (add_zero (factor_at d ts))) ih
+    go true h ih = subst (IsSmall form_limit) (sym (ap (λ z. t.factor +ℤ z) (none_behind d t ts o h) ∙ plus_zero t.factor)) s.0
+    go false h ih = subst (IsSmall form_limit) (sym (zero_plus (factor_at d ts))) ih
 
 each_small : (ts : List Term) → AreInOrder (deltas_of ts) → ((d : Delta) → IsSmall form_limit (factor_at d ts)) → AreSmall ts
 unfolding definitions plan_definitions
@@ -53,21 +53,16 @@ each_small (t ∷ ts) o h =
   where
     go : (d : Delta) (v : Bool) → same_delta d t.delta ≡ v → IsSmall form_limit (cond v t.factor (pos 0) +ℤ factor_at d ts) → IsSmall form_limit (factor_at d ts)
     go d true e k = subst (IsSmall form_limit) (sym (none_behind d t ts o e)) zero_small
-    go d false e k = subst (IsSmall form_limit) (add_zero (factor_at d ts)) k
+    go d false e k = subst (IsSmall form_limit) (zero_plus (factor_at d ts)) k
 
 -- ---- what the map has
-then_both : (o p : Ordering) → is_eq (ordering_then o p) ≡ (is_eq o && is_eq p)
-then_both Less p = refl
-then_both Equal p = refl
-then_both Greater p = refl
-
 nat_same : (m n : ℕ) → is_eq (nat_cmp m n) ≡ (n == m)
 nat_same m n = grind (arith, nat_tests)
 
 key_same : (d e : Delta) → is_eq (key_cmp (key_of e) (key_of d)) ≡ same_delta d e
 unfolding plan_definitions
 key_same d e =
-    then_both (nat_cmp e.object d.object) (nat_cmp e.site d.site) ∙ ap₂ ◌&&◌ (nat_same e.object d.object) (nat_same e.site d.site)
+    then_equal (nat_cmp e.object d.object) (nat_cmp e.site d.site) ∙ ap₂ ◌&&◌ (nat_same e.object d.object) (nat_same e.site d.site)
 
 module _ (m n : Factors) (first : List Term) (t : Term) (w : ℤ) (u : (q : DeltaKey) → get key_cmp n q ≡ cond (is_eq (key_cmp (key_of t.delta) q)) (Some w) (get key_cmp m q)) where
   pub factor_put : w ≡ t.factor +ℤ factor_in m first t.delta → (d : Delta) → factor_in n first d ≡ share d t.delta t.factor +ℤ factor_in m first d
@@ -78,7 +73,7 @@ module _ (m n : Factors) (first : List Term) (t : Term) (w : ℤ) (u : (q : Delt
     where
       go : (v : Bool) → same_delta d t.delta ≡ v → unwrap_or (cond v (Some w) (get key_cmp m (key_of d))) (factor_at d first) ≡ cond v t.factor (pos 0) +ℤ factor_in m first d
       go true h = p ∙ ap (λ e. t.factor +ℤ factor_in m first e) (sym (same_delta_is d t.delta h))
-      go false h = sym (add_zero (factor_in m first d))
+      go false h = sym (zero_plus (factor_in m first d))
 
 -- ---- one term after another
 module _ (m : Factors) (first ts : List Term) where
@@ -112,24 +107,24 @@ module _ (m : Factors) (first ts : List Term) where
         go : (d : Delta) (v : Bool) → same_delta d t.delta ≡ v → IsSmall form_limit (factor_in k first d)
         go d true e = subst (λ y. IsSmall form_limit (factor_in k first y)) (sym (same_delta_is d t.delta e)) h
         go d false e =
-            subst (IsSmall form_limit) (sym (u d ∙ ap (λ b. cond b t.factor (pos 0) +ℤ factor_in n first d) e ∙ add_zero (factor_in n first d))) (s.small d)
+            subst (IsSmall form_limit) (sym (u d ∙ ap (λ b. cond b t.factor (pos 0) +ℤ factor_in n first d) e ∙ zero_plus (factor_in n first d))) (s.small d)
 
     pub factor_from : ((d : Delta) → IsSmall form_limit (factor_with m first ts d)) → IsSmall form_limit (factor_in k first t.delta)
     unfolding plan_definitions
     factor_from h =
         let none : factor_at t.delta (drop (i + 1) ts) ≡ pos 0 = above_none t.delta (drop (i + 1) ts) order_next.0 in
         subst (IsSmall form_limit)
-        (sym (left_next t.delta) ∙ ap (λ z. z +ℤ factor_in k first t.delta) none ∙ add_zero (factor_in k first t.delta)) (h t.delta)
+        (sym (left_next t.delta) ∙ ap (λ z. z +ℤ factor_in k first t.delta) none ∙ zero_plus (factor_in k first t.delta)) (h t.delta)
 
   pub factors_end : (i : ℕ) (n : Factors) → length ts ≤ i → FactorsSoFar i n → (d : Delta) → factor_in n first d ≡ factor_with m first ts d
   unfolding definitions
   factors_end i n l s d =
-      sym (add_zero (factor_in n first d)) ∙ sym (ap (λ l. factor_with n first l d) (drop_of_length-le ts l)) ∙ s.left d
+      sym (zero_plus (factor_in n first d)) ∙ sym (ap (λ l. factor_with n first l d) (drop_of_length-le ts l)) ∙ s.left d
 
 -- ---- sums of factors by delta, and the terms added up
 at_sum : (ts : List Term) (d : Delta) → factor_at d (add_terms ts []) ≡ factor_at d ts
 unfolding definitions
-at_sum ts d = at_adds d ts [] ∙ zero_add (factor_at d ts)
+at_sum ts d = at_adds d ts [] ∙ plus_zero (factor_at d ts)
 
 order_sum : (ts : List Term) → AreInOrder (deltas_of (add_terms ts []))
 unfolding plan_definitions

@@ -8,6 +8,7 @@ use Rattle.std.proofs.lemmas.Bool.Decides.{Decides-int_eq}
 use Rattle.std.proofs.lemmas.Int.{ints}
 use Rattle.std.proofs.lemmas.List.Sums.{sum_by-cons}
 use Rattle.std.proofs.lemmas.List.Sorted.{All-permutation, sum_by-IsPermutation}
+use Rattle.homeo_lemmas.proofs.Integers.{plus_zero, zero_plus, plus_cancel, int_is_zero, cond_zero}
 use Rattle.homeo_meaning.specs.Small.{IsSmall}
 use Rattle.homeo_plan.specs.Key.{definitions as plan_definitions}
 use Rattle.homeo_plan.specs.Each.{Each}
@@ -23,17 +24,8 @@ use Rattle.homeo_form.proofs.Adding.{order_adds, order_scale}
 use Rattle.homeo_plan.proofs.Factors.{same_delta_is, same_delta_refl, before_is_other, before_total}
 
 -- ---- numbers
-none_left : (f : ℤ) → int_eq f (pos 0) ≡ true → f ≡ pos 0
-none_left f h = grind (arith, Decides-int_eq f (pos 0))
-
 left_over : (f : ℤ) → int_eq f (pos 0) ≡ false → f ≡ pos 0 → ⊥
 left_over f h e = grind (arith, Decides-int_eq f (pos 0))
-
-pub add_zero : (x : ℤ) → pos 0 +ℤ x ≡ x
-add_zero x = omega (arith, ints)
-
-pub zero_add : (x : ℤ) → x +ℤ pos 0 ≡ x
-zero_add x = omega (arith, ints)
 
 pub add_assoc : (x y z : ℤ) → (x +ℤ y) +ℤ z ≡ x +ℤ (y +ℤ z)
 add_assoc x y z = omega (arith, ints)
@@ -41,17 +33,10 @@ add_assoc x y z = omega (arith, ints)
 pub add_swap : (x y z : ℤ) → x +ℤ (y +ℤ z) ≡ y +ℤ (x +ℤ z)
 add_swap x y z = omega (arith, ints)
 
-add_cancel : (x y z : ℤ) → x +ℤ y ≡ x +ℤ z → y ≡ z
-add_cancel x y z h = omega (arith, ints, h)
-
 -- ---- the sum of a delta's factors
 share_sum : (b : Bool) (f g : ℤ) → cond b (f +ℤ g) (pos 0) ≡ cond b f (pos 0) +ℤ cond b g (pos 0)
 share_sum true f g = refl
 share_sum false f g = refl
-
-share_none : (b : Bool) → cond b (pos 0) (pos 0) ≡ pos 0
-share_none true = refl
-share_none false = refl
 
 at_with : (d e : Delta) (f : ℤ) (ts : List Term) → factor_at d (with_term e f ts) ≡ share d e f +ℤ factor_at d ts
 unfolding definitions plan_definitions
@@ -59,7 +44,7 @@ at_with d e f ts = go (int_eq f (pos 0)) refl
   where
     go : (v : Bool) → int_eq f (pos 0) ≡ v → factor_at d (cond v ts (record { delta = e; factor = f } ∷ ts)) ≡ share d e f +ℤ factor_at d ts
     go true h =
-        sym (ap (λ z. z +ℤ factor_at d ts) (ap (share d e) (none_left f h) ∙ share_none (same_delta d e)) ∙ add_zero (factor_at d ts))
+        sym (ap (λ z. z +ℤ factor_at d ts) (ap (share d e) (int_is_zero f h) ∙ cond_zero (same_delta d e)) ∙ zero_plus (factor_at d ts))
     go false h = refl
 
 at_add : (d e : Delta) (f : ℤ) (ts : List Term) → factor_at d (add_term e f ts) ≡ share d e f +ℤ factor_at d ts
@@ -81,7 +66,7 @@ at_add d e f (t ∷ ts) = go (same_delta e t.delta) refl (delta_before e t.delta
 
 pub at_adds : (d : Delta) (ts us : List Term) → factor_at d (add_terms ts us) ≡ factor_at d ts +ℤ factor_at d us
 unfolding definitions plan_definitions
-at_adds d [] us = sym (add_zero (factor_at d us))
+at_adds d [] us = sym (zero_plus (factor_at d us))
 at_adds d (t ∷ ts) us =
     at_adds d ts (add_term t.delta t.factor us)
     ∙ ap (λ z. factor_at d ts +ℤ z) (at_add d t.delta t.factor us)
@@ -98,7 +83,7 @@ above_none d (t ∷ ts) a =
 pub first_at : (t : Term) (ts : List Term) → After t.delta (deltas_of ts) → factor_at t.delta (t ∷ ts) ≡ t.factor
 unfolding definitions
 first_at t ts a =
-    ap₂ (λ b z. cond b t.factor (pos 0) +ℤ z) (same_delta_refl t.delta) (above_none t.delta ts a) ∙ zero_add t.factor
+    ap₂ (λ b z. cond b t.factor (pos 0) +ℤ z) (same_delta_refl t.delta) (above_none t.delta ts a) ∙ plus_zero t.factor
 
 -- ---- in another order
 -- what is gained and what is lost
@@ -137,7 +122,7 @@ same_rest :
     (t u : Term) (d : Delta) (ts us : List Term) → t ≡ u → share d t.delta t.factor +ℤ factor_at d ts ≡ share d u.delta u.factor +ℤ factor_at d us →
     factor_at d ts ≡ factor_at d us
 same_rest t u d ts us p h =
-    add_cancel (share d t.delta t.factor) (factor_at d ts) (factor_at d us) (h ∙ ap (λ (x : Term). share d x.delta x.factor +ℤ factor_at d us) (sym p))
+    plus_cancel (share d t.delta t.factor) (factor_at d ts) (factor_at d us) (h ∙ ap (λ (x : Term). share d x.delta x.factor +ℤ factor_at d us) (sym p))
 
 -- a term that counts is missed by a list without its delta
 missed : (t : Term) (ts us : List Term) → int_eq t.factor (pos 0) ≡ false → After t.delta (deltas_of ts) → factor_at t.delta us ≡ pos 0 →
@@ -200,7 +185,7 @@ count_scale n (t ∷ ts) = count_with t.delta (n *ℤ t.factor) (scale_terms n t
 same_by : (ts us : List Term) → AreInOrder (deltas_of us) → AllCount us → ((d : Delta) → factor_at d us ≡ factor_at d ts) → us ≡ add_terms ts []
 unfolding definitions plan_definitions
 same_by ts us o c h =
-    same_terms us (add_terms ts []) o (order_adds ts [] tt) c (count_adds ts [] tt) (λ d. h d ∙ sym (at_adds d ts [] ∙ zero_add (factor_at d ts)))
+    same_terms us (add_terms ts []) o (order_adds ts [] tt) c (count_adds ts [] tt) (λ d. h d ∙ sym (at_adds d ts [] ∙ plus_zero (factor_at d ts)))
 
 pub in_order_kept : (ts : List Term) → AreInOrder (deltas_of ts) → AllCount ts → ts ≡ add_terms ts []
 in_order_kept ts o c = same_by ts ts o c (λ d. refl)
@@ -209,7 +194,7 @@ pub permuted_same : (ts us : List Term) → IsPermutation ts us → add_terms us
 unfolding definitions plan_definitions
 permuted_same ts us p =
     same_by ts (add_terms us []) (order_adds us [] tt) (count_adds us [] tt)
-    (λ d. at_adds d us [] ∙ zero_add (factor_at d us) ∙ at_permuted d ts us p)
+    (λ d. at_adds d us [] ∙ plus_zero (factor_at d us) ∙ at_permuted d ts us p)
 
 pub adds_append : (ts us vs : List Term) → add_terms (ts ++ us) vs ≡ add_terms us (add_terms ts vs)
 unfolding plan_definitions
