@@ -4,12 +4,12 @@ use Rattle.homeo_follow.specs.Key.{definitions as follow_definitions}
 use Rattle.std.proofs.Common.{◌≡◌, ℕ, ◌+◌, ◌-◌, ◌<◌, ◌≤◌, Bool, ◌||◌, List, [], ◌∷◌, ◌++◌, map, drop, get_or, length, ℤ, refl, sym, ap, ◌∙◌, add-one, arith}
 use Rattle.std.specs.List.{list_any}
 use Rattle.std.proofs.Math.Seq.{drop-cons}
+use Rattle.homeo_lemmas.proofs.Bools.{or_false}
 use Rattle.homeo_meaning.specs.LowMeaning.{BaseAt}
 use Rattle.homeo_plan.specs.declared.forms.Delta.{Delta}
 use Rattle.homeo_plan.specs.Linear.{AreInOrder, Linear, Forms, add_deltas, support}
 use Rattle.homeo_follow.specs.Follow.{gain, print_needs, write_needs}
 use Rattle.homeo_plan.proofs.DeltaLists.{has, any_adds, has_adds, in_order_adds, same_deltas}
-use Rattle.homeo_form.proofs.DeltasInOrder.{or_none}
 
 -- the objects that deltas stand for
 abbrev objects : List Delta → List ℕ
@@ -22,7 +22,7 @@ any_object q (d ∷ ds) = ap (λ v. q d.object || v) (any_object q ds)
 
 any_once : (q : ℕ → Bool) (ds es : List Delta) → es ≡ add_deltas ds [] → list_any q (objects es) ≡ list_any q (objects ds)
 any_once q ds es p =
-    any_object q es ∙ ap (list_any (λ d. q d.object)) p ∙ any_adds (λ d. q d.object) ds [] ∙ or_none (list_any (λ d. q d.object) ds)
+    any_object q es ∙ ap (list_any (λ d. q d.object)) p ∙ any_adds (λ d. q d.object) ds [] ∙ or_false (list_any (λ d. q d.object) ds)
     ∙ sym (any_object q ds)
 
 -- ---- gains
