@@ -1,6 +1,7 @@
 -- One more command in front of those that are left, and one more row.
 use Rattle.std.proofs.Common.{◌≡◌, ◌+◌, ◌<◌, List, [], ◌∷◌, ◌++◌, map, reverse, Bor, refl, sym, ap, ap₂, ◌∙◌, arith, lit<, append_assoc, append-nil}
 use Rattle.std.proofs.lemmas.List.{reverse-append, map-append, map_push}
+use Rattle.std.proofs.lemmas.Simd.{map-map}
 use Rattle.homeo_syntax.specs.Key.{definitions as syntax_definitions}
 use Rattle.homeo_syntax.specs.declared.low.LCommand.{LCommand}
 use Rattle.homeo_syntax.specs.declared.low.SplitName.{SplitName}
@@ -95,10 +96,6 @@ unfolding plan_definitions
 over-Seq k ds cs es rows h f = ap (λ l. left_before l rows) f ∙ left-all cs ds rows ∙ ap (λ k. before k (left_before cs rows)) (sym h)
 
 -- ---- rows in the making
-pub map-map : {A B C : Type 0} (m : B → C) (f : A → B) (xs : List A) → map m (map f xs) ≡ map (λ x. m (f x)) xs
-map-map m f [] = refl
-map-map m f (x ∷ xs) = ap (λ l. m (f x) ∷ l) (map-map m f xs)
-
 pub rows-through :
     (m n f : Row → Row) (k : Command) (rows : List Row) → n ≡ (λ r. m (f r)) → before k rows ≡ map f rows → map n rows ≡ map m (before k rows)
 rows-through m n f k rows e h = ap (λ n. map n rows) e ∙ sym (map-map m f rows) ∙ ap (map m) (sym h)

@@ -1,6 +1,7 @@
 -- One more command or test of a row in the making.
 use Rattle.std.proofs.Common.{◌≡◌, Option, Some, None, List, [], ◌∷◌, ◌++◌, map, take, length, Bor, refl, sym, ap, ap₂, ◌∙◌, arith}
-use Rattle.std.proofs.lemmas.List.{map_push, map-append, take_all, take-append-le}
+use Rattle.std.proofs.lemmas.List.{map_push, map-append, take-append-le}
+use Rattle.homeo_lemmas.proofs.Lists.{take_whole}
 use Rattle.homeo_syntax.specs.Key.{definitions as syntax_definitions}
 use Rattle.homeo_syntax.specs.declared.low.LTest.{LTest}
 use Rattle.homeo_syntax.specs.declared.low.LCommand.{LCommand}
@@ -111,11 +112,8 @@ unfolding substitution_definitions plan_definitions
 row-last ts cs s = ap₂ row_of (sym (both-none (low_tests ts))) (sym (then-none cs))
 
 -- ---- what stands in front stays
-pub begins-same : {X : Type 0} (xs : List X) → take (length xs) xs ≡ xs
-begins-same xs = take_all (length xs) xs (omega arith)
-
 pub begins-append : {X : Type 0} (xs ys us : List X) → ys ≡ xs ++ us → take (length xs) ys ≡ xs
-begins-append xs ys us h = ap (take (length xs)) h ∙ take-append-le (length xs) xs us (omega arith) ∙ begins-same xs
+begins-append xs ys us h = ap (take (length xs)) h ∙ take-append-le (length xs) xs us (omega arith) ∙ take_whole xs
 
 pub begins-more : {X Y : Type 0} (f : X → Y) (xs ys us : List X) → ys ≡ xs ++ us → take (length (map f xs)) (map f ys) ≡ map f xs
 begins-more f xs ys us h = begins-append (map f xs) (map f ys) (map f us) (ap (map f) h ∙ map-append f xs us)

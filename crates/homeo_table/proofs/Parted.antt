@@ -1,6 +1,8 @@
 -- Branches that part, and what stands in front of them.
 use Rattle.std.proofs.Common.{◌≡◌, ℕ, ◌≤◌, Option, Some, None, List, [], ◌∷◌, ◌++◌, map, take, reverse, length, Bor, append-nil, refl, sym, ap, ap₂, subst, ◌∙◌, arith}
 use Rattle.std.proofs.lemmas.List.{reverse-append, length-take, length-take-le, take-take}
+use Rattle.std.proofs.lemmas.Simd.{map-map}
+use Rattle.homeo_lemmas.proofs.Lists.{take_whole}
 use Rattle.homeo_syntax.specs.Low.{Test, Command}
 use Rattle.homeo_syntax.specs.declared.low.LCond.{LCond}
 use Rattle.homeo_syntax.specs.LowView.{plain_lcond, plain_lcommand}
@@ -14,8 +16,8 @@ use Rattle.homeo_table.specs.inner.Key.{definitions}
 use Rattle.homeo_table.specs.inner.Partings.{tests_of, commands_of, row_with, row_from, left_before, failed_before, rows_from, rows_of_all}
 use Rattle.homeo_table.specs.inner.Branches.{rows_behind, Nested, AreNested}
 use Rattle.homeo_table.specs.inner.Makings.{Begins}
-use Rattle.homeo_table.proofs.Makings.{begins-same, row-new}
-use Rattle.homeo_table.proofs.Following.{left-push, map-map}
+use Rattle.homeo_table.proofs.Makings.{row-new}
+use Rattle.homeo_table.proofs.Following.{left-push}
 
 -- ---- fronts of lists
 -- a front is as long as it says where another one is
@@ -30,7 +32,7 @@ shorter-front : {X : Type 0} (n m : ℕ) (xs ys : List X) → n ≤ m → take m
 shorter-front n m xs ys le same = sym (take-take n m xs le) ∙ ap (take n) same ∙ take-take n m ys le
 
 begins-front : {X : Type 0} (xs ys : List X) → take (length xs) ys ≡ xs → take (length xs) ys ≡ take (length xs) xs
-begins-front xs ys h = h ∙ sym (begins-same xs)
+begins-front xs ys h = h ∙ sym (take_whole xs)
 
 -- a front that was gone back to, and then more
 pub back-front : {X : Type 0} (n : ℕ) (xs front ys : List X) → n ≤ length xs → front ≡ take n xs → take (length front) ys ≡ front → take n ys ≡ take n xs

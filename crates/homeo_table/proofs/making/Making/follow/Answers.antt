@@ -1,8 +1,9 @@
 -- One more command.
+use Rattle.homeo_lemmas.proofs.Lists.{take_whole}
 use Rattle.homeo_syntax.specs.LowView.{plain_lcommand}
 use Rattle.homeo_table.specs.inner.Partings.{tests_of}
 use Rattle.homeo_table.specs.inner.Makings.{completed}
-use Rattle.homeo_table.proofs.Makings.{row-command, begins-same, begins-more}
+use Rattle.homeo_table.proofs.Makings.{row-command, begins-more}
 use Rattle.homeo_table.proofs.making.Making.follow.Goals as goal
 
 pub returns-clause-row : goal.returns-clause-row
@@ -11,6 +12,6 @@ returns-clause-row c = row-command _ c.args.self.now.commands.items c.push.new.s
 
 pub returns-clause-begins : goal.returns-clause-begins
 returns-clause-begins c = record {
-  tests = begins-same (tests_of c.args.self.now);
+  tests = take_whole (tests_of c.args.self.now);
   commands = begins-more (λ c. plain_lcommand c.now) c.args.self.now.commands.items c.push.new.self.items _ c.in_ok-push.ensures.items;
 }
