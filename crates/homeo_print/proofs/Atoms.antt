@@ -1,5 +1,5 @@
 -- The names and numbers among tokens, and lists of tokens cut in two.
-use Rattle.std.proofs.Common.{◌≡◌, ℕ, ℤ, pos, negsuc, Bool, true, false, List, [], ◌∷◌, ◌++◌, map, refl, sym, ap, ◌∙◌, rules}
+use Rattle.std.proofs.Common.{◌≡◌, ℕ, ℤ, pos, negsuc, Bool, true, false, List, [], ◌∷◌, ◌++◌, map, refl, sym, ap, ◌∙◌, rules, true≢false}
 use Rattle.std.specs.Prelude.{◌||◌, ◌&&◌, ◌==◌}
 use Rattle.std.proofs.lemmas.List.{map-append, append-nil}
 use Rattle.std.proofs.lemmas.Bool.{eq-eqb}
@@ -99,12 +99,9 @@ not_number : (m : Mark) → (number_class == number_of m) ≡ false
 not_number mark.Assign = refl
 not_number m = refl
 
-differ : true ≡ false → ⊥
-differ e = cc
-
 taken_not : (b : Bool) → b ≡ false → ((b || false) && true) ≡ true → ⊥
-taken_not true h k = differ h
-taken_not false h k = differ (sym k)
+taken_not true h k = true≢false h
+taken_not false h k = true≢false (sym k)
 
 -- a mark is no name and no number
 pub mark_skipped : (m : Mark) (k : Kind) (ks : List Kind) → takes (number_of m ∷ []) (λ k. true) k ≡ true → atoms (k ∷ ks) ≡ atoms ks
@@ -129,7 +126,7 @@ pub record IsNumber (k : Kind) : Type 0 where
 
 number_value : (n : ℤ) → is_natural_value n ≡ true → IsNumber (kind.Number n)
 number_value (pos n) h = record { size = n; is = refl }
-number_value (negsuc n) h = absurd (differ (sym h))
+number_value (negsuc n) h = absurd (true≢false (sym h))
 
 pub literal_taken : (k : Kind) → takes (number_class ∷ []) (λ k. true) k ≡ true → Natural k → IsNumber k
 literal_taken (kind.Number n) h f = number_value n f
@@ -146,9 +143,9 @@ same_value n m h = let e : m ≡ n = search rules in ap (λ (x : ℕ). kind.Numb
 
 pub value_taken : (n : ℕ) (k : Kind) → takes (number_class ∷ []) (λ k. is_value n (value_in k)) k ≡ true → k ≡ kind.Number (pos n)
 value_taken n (kind.Number (pos m)) h = same_value n m h
-value_taken n (kind.Number (negsuc m)) h = absurd (differ (sym h))
-value_taken n (kind.Fixed mark.Assign) h = absurd (differ (sym h))
-value_taken n k h = absurd (differ (sym h))
+value_taken n (kind.Number (negsuc m)) h = absurd (true≢false (sym h))
+value_taken n (kind.Fixed mark.Assign) h = absurd (true≢false (sym h))
+value_taken n k h = absurd (true≢false (sym h))
 
 -- each token's number is without a sign
 abbrev pub Fine : List Token → Type 0

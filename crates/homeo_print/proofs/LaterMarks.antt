@@ -1,5 +1,6 @@
 -- No text of version 1 has a mark of version 2: its grammar takes none.
 use Rattle.std.proofs.Common.{◌≡◌, ℕ, zero, suc, Bool, true, false, not, ◌&&◌, List, [], ◌∷◌, ◌++◌, map, refl, sym, ap, subst, ◌∙◌, inl, inr}
+use Rattle.homeo_lemmas.proofs.Bools.{and_first, and_second, never_both}
 use Rattle.homeo_syntax.specs.Key.{definitions as syntax_definitions}
 use Rattle.homeo_syntax.specs.declared.token.Mark.TheVariants as mark
 use Rattle.homeo_syntax.specs.declared.token.Kind.{Kind}
@@ -42,18 +43,6 @@ away_both : (n : ℕ) (u v : List Token) → Away n u → Away n v → Away n (u
 away_both n [] v a b = b
 away_both n (t ∷ u) v a b = (a.0, away_both n u v a.1 b)
 
-first_true : (a b : Bool) → (a && b) ≡ true → a ≡ true
-first_true true b h = refl
-first_true false b h = h
-
-second_true : (a b : Bool) → (a && b) ≡ true → b ≡ true
-second_true true b h = h
-second_true false b h = let no : ⊥ = cc in absurd no
-
-not_both : (a : Bool) → not a ≡ true → a ≡ true → ⊥
-not_both true h k = cc
-not_both false h k = cc
-
 module _ (n : ℕ) (M : (c : Deep) → Tree c → List Token → Type 0) (hyp : (c : Deep) → has_first c ≡ true → (a : Tree c) (ts : List Token) → M c a ts → Away n ts) where
   away_many : {X : Type 0} (P : X → List Token → Type 0) → ((a : X) (ts : List Token) → P a ts → Away n ts) → (all : List X) (ts : List Token) → Repeats P all ts → Away n ts
   away_many P one [] ts s = subst (Away n) (sym s) tt
@@ -62,13 +51,13 @@ module _ (n : ℕ) (M : (c : Deep) → Tree c → List Token → Type 0) (hyp : 
   away : {X : Type 0} → (g : Grammar Deep Tree X) → free n g ≡ true → (a : X) (ts : List Token) → Spells M g a ts → Away n ts
   away (token classes test value sample) e a ts s =
       subst (Away n) (sym s.1)
-      (λ same. not_both (has classes n) e (ap (has classes) (sym same) ∙ first_true (has classes (class_of s.0.kind)) (test s.0.kind) s.2), tt)
+      (λ same. never_both (has classes n) e (ap (has classes) (sym same) ∙ and_first (has classes (class_of s.0.kind)) (test s.0.kind) s.2), tt)
   away (nothing b) e a ts s = subst (Away n) (sym s.0) tt
   away (call c) e a ts s = hyp c e a ts s
   away (seq g h) e a ts s =
-      subst (Away n) (sym s.2) (away_both n s.0 s.1 (away g (first_true (free n g) (free n h) e) a.0 s.0 s.3) (away h (second_true (free n g) (free n h) e) a.1 s.1 s.4))
+      subst (Away n) (sym s.2) (away_both n s.0 s.1 (away g (and_first (free n g) (free n h) e) a.0 s.0 s.3) (away h (and_second (free n g) (free n h) e) a.1 s.1 s.4))
   away (alt g h) e a ts s =
-      elim s [ inl x ↦ away g (first_true (free n g) (free n h) e) a ts x | inr x ↦ away h (second_true (free n g) (free n h) e) a ts x ]
+      elim s [ inl x ↦ away g (and_first (free n g) (free n h) e) a ts x | inr x ↦ away h (and_second (free n g) (free n h) e) a ts x ]
   away (many g) e a ts s = away_many (Spells M g) (λ b us x. away g e b us x) a ts s
   away (part g) e a ts s = away g e a ts s
   away (as_value f g) e a ts s = away g e s.0 ts s.1

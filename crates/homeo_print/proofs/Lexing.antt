@@ -6,6 +6,7 @@ use Rattle.std.proofs.lemmas.List.Folds.{list_all-append}
 use Rattle.std.proofs.lemmas.List.Sums.{take_while-cons}
 use Rattle.std.proofs.lemmas.Bool.Decides.{nat_tests}
 use Rattle.std.proofs.lemmas.Fmt.{decimal_by_steps, length-decimal-le}
+use Rattle.homeo_lemmas.proofs.Bools.{and_first, and_second, or_first, or_second}
 use Rattle.homeo_syntax.specs.declared.token.Mark.{Mark}
 use Rattle.homeo_syntax.specs.declared.token.Mark.TheVariants as mark
 use Rattle.homeo_syntax.specs.declared.token.Kind.{Kind}
@@ -36,22 +37,6 @@ glues before.Apart = in_word
 abbrev pub BeginsWithout : (ℕ → Bool) → List ℕ → Type 0
 BeginsWithout p [] = Unit {0}
 BeginsWithout p (x ∷ xs) = p x ≡ false
-
-or_first : (a b : Bool) → (a || b) ≡ false → a ≡ false
-or_first true b h = h
-or_first false b h = refl
-
-or_second : (a b : Bool) → (a || b) ≡ false → b ≡ false
-or_second true b h = let no : ⊥ = cc in absurd no
-or_second false b h = h
-
-pub and_first : (a b : Bool) → (a && b) ≡ true → a ≡ true
-and_first true b h = refl
-and_first false b h = h
-
-pub and_second : (a b : Bool) → (a && b) ≡ true → b ≡ true
-and_second true b h = h
-and_second false b h = let no : ⊥ = cc in absurd no
 
 no_word : (rest : List ℕ) → BeginsWithout in_word rest → BeginsWithout is_word rest
 no_word [] h = tt

@@ -7,6 +7,7 @@ use Rattle.std.proofs.lemmas.Option.{slice_get-map}
 use Rattle.std.proofs.lemmas.List.{take_more, map-append, length-map}
 use Rattle.std.proofs.lemmas.List.Folds.{flat_map-map}
 use Rattle.std.proofs.lemmas.Grind.{flat_map-append}
+use Rattle.homeo_lemmas.proofs.Lists.{range_more}
 use Rattle.homeo_syntax.specs.Key.{definitions as syntax_definitions}
 use Rattle.homeo_syntax.specs.Source as s
 use Rattle.homeo_syntax.specs.SourceView.{plain_relation, plain_workload}
@@ -18,7 +19,6 @@ use Rattle.homeo_meaning.specs.Schema.{nat_of}
 use Rattle.homeo_print.specs.Key.{definitions}
 use Rattle.homeo_print.specs.Names.{name_text, declared_names, field_name, field_names, slot_names, relation_names, object_names, name_at}
 use Rattle.homeo_print.specs.Objects.{bytes_of}
-use Rattle.homeo_print.proofs.OneMore.{range_push}
 
 -- ---- declared objects
 pub declared_more : (w : s.Workload) (objects : List ObjectDecl) (i : ℕ) (o : ObjectDecl) → i < length objects → declared_names w (take (i + 1) objects) ≡ declared_names w (take i objects) ++ name_text w (get_or objects i o).name ∷ []
@@ -42,7 +42,7 @@ first_names w r n = flat_map (slot_names w r) (range_with_len 0 n)
 
 pub first_names_more : (w : s.Workload) (r : s.RelationDecl) (n : ℕ) → first_names w r (n + 1) ≡ first_names w r n ++ slot_names w r n
 first_names_more w r n =
-    rw add-one (ap (flat_map (slot_names w r)) (range_push 0 n) ∙ flat_map-append (slot_names w r) (range_with_len 0 n) ((0 + n) ∷ []) ∙ ap (λ l. first_names w r n ++ l) (append-nil (slot_names w r (0 + n)) ∙ ap (slot_names w r) (zero-add n)))
+    rw add-one (ap (flat_map (slot_names w r)) (range_more 0 n) ∙ flat_map-append (slot_names w r) (range_with_len 0 n) ((0 + n) ∷ []) ∙ ap (λ l. first_names w r n ++ l) (append-nil (slot_names w r (0 + n)) ∙ ap (slot_names w r) (zero-add n)))
 
 pub length_slot_names : (w : s.Workload) (r : s.RelationDecl) (k : ℕ) → length (slot_names w r k) ≡ length r.fields + 1
 unfolding definitions

@@ -1,13 +1,9 @@
 -- Views and numbered pieces of text, with one more.
-use Rattle.std.proofs.Common.{◌≡◌, ℕ, zero, suc, ◌+◌, ◌<◌, List, [], ◌∷◌, ◌++◌, map, length, take, get_or, append-nil, add-zero, zero-add, sym, ap, ◌∙◌, arith}
-use Rattle.std.specs.List.{flat_map, range_with_len, enumerate_from}
-use Rattle.std.proofs.lemmas.List.{take_more, map-append, length-map, length-take-le}
+use Rattle.std.proofs.Common.{◌≡◌, ℕ, ◌+◌, ◌<◌, List, [], ◌∷◌, ◌++◌, map, length, take, get_or, append-nil, add-zero, zero-add, sym, ap, ◌∙◌, arith}
+use Rattle.std.specs.List.{flat_map, enumerate_from}
+use Rattle.std.proofs.lemmas.List.{length-map, length-take-le}
 use Rattle.std.proofs.lemmas.Grind.{flat_map-append}
-
--- a list of views with one more
-pub views_more : {X Y : Type 0} (f : X → Y) (xs : List X) (i : ℕ) (x : X) → i < length xs → x ≡ get_or xs i x → map f (take (i + 1) xs) ≡ map f (take i xs) ++ f x ∷ []
-views_more f xs i x within is =
-    ap (map f) (take_more xs i x within) ∙ map-append f (take i xs) (get_or xs i x ∷ []) ∙ ap (λ y. map f (take i xs) ++ f y ∷ []) (sym is)
+use Rattle.homeo_lemmas.proofs.Lists.{map_take_more}
 
 enumerate_push : {X : Type 0} (n : ℕ) (xs : List X) (x : X) → enumerate_from n (xs ++ x ∷ []) ≡ enumerate_from n xs ++ (n + length xs, x) ∷ []
 enumerate_push n [] x = ap (λ k. (k, x) ∷ []) (sym (add-zero n))
@@ -31,12 +27,5 @@ numbered_more {X} {Y} g f xs i x within is =
     let text : List (ℕ × Y) → List ℕ = flat_map (λ p. g p.0 p.1) in
     let first : List Y = map f (take i xs) in
     let count : length first ≡ i = omega (arith, length-map (take i xs) f, length-take-le i xs (omega arith)) in
-    ap (λ l. text (enumerate_from 0 l)) (views_more f xs i x within is)
+    ap (λ l. text (enumerate_from 0 l)) (map_take_more f xs i x within is)
     ∙ numbered_push g 0 i first (f x) count ∙ ap (λ k. text (enumerate_from 0 first) ++ g k (f x)) (zero-add i)
-
--- one number more
-pub range_push : (a n : ℕ) → range_with_len a (suc n) ≡ range_with_len a n ++ (a + n) ∷ []
-range_push a zero = ap (λ i. i ∷ []) (sym (add-zero a))
-range_push a (suc n) =
-    let e : (a + 1) + n ≡ a + suc n = omega arith in
-    ap (λ l. a ∷ l) (range_push (a + 1) n ∙ ap (λ i. range_with_len (a + 1) n ++ i ∷ []) e)

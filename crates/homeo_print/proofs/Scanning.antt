@@ -1,10 +1,12 @@
 -- The text of tokens is read as these tokens.
 use Rattle.std.proofs.Common.{◌≡◌, ℕ, ◌+◌, ◌-◌, ◌^◌, ◌<◌, Bool, true, false, List, [], ◌∷◌, ◌++◌, length, map, refl, sym, ap, ap₂, pos, subst, ◌∙◌, arith}
-use Rattle.std.specs.Prelude.{Some, Ok, if◌then◌else◌, ◌||◌, ◌&&◌, ◌==◌, not, ℤ, decimal, unsigned_abs, get_or, nat_le}
+use Rattle.std.specs.Prelude.{Some, Ok, if◌then◌else◌, ◌&&◌, ◌==◌, not, ℤ, decimal, unsigned_abs, get_or, nat_le}
 use Rattle.std.specs.List.{list_all, flat_map}
 use Rattle.std.specs.Result.{result_map_both}
 use Rattle.std.proofs.lemmas.List.Folds.{list_all-append}
 use Rattle.std.proofs.lemmas.Bool.Decides.{nat_tests}
+use Rattle.std.proofs.lemmas.Bool.{and_from, or_right, not-true}
+use Rattle.homeo_lemmas.proofs.Bools.{and_first, and_second}
 use Rattle.homeo_syntax.specs.declared.token.Mark.{Mark}
 use Rattle.homeo_syntax.specs.declared.token.Mark.TheVariants as mark
 use Rattle.homeo_syntax.specs.declared.token.Kind.{Kind}
@@ -28,7 +30,7 @@ use Rattle.homeo_print.specs.TokensOf.{mark_of, number_of, weights_kinds, object
 use Rattle.homeo_print.specs.Printed.{lexeme_in, CanStand, IsPrintable, ScansAs}
 use Rattle.homeo_print.specs.Layout.{token_text, mark_sort, sort_of, gap, after, laid}
 use Rattle.homeo_print.specs.Print.{print}
-use Rattle.homeo_print.proofs.Lexing.{glues, BeginsWithout, BeginsWithDigit, Spells, and_first, and_second, digits_spell, raw_mark, raw_in, token_lexes}
+use Rattle.homeo_print.proofs.Lexing.{glues, BeginsWithout, BeginsWithDigit, Spells, digits_spell, raw_mark, raw_in, token_lexes}
 
 -- ---- the bytes of a token
 -- the bytes begin with one that passes the test
@@ -38,10 +40,6 @@ BeginsWith p (x ∷ xs) = p x ≡ true
 
 abbrev no_space : ℕ → Bool
 no_space x = not (is_space x)
-
-not_space : (b : Bool) → not b ≡ true → b ≡ false
-not_space true h = let no : ⊥ = cc in absurd no
-not_space false h = refl
 
 letter_no_space : (x : ℕ) → is_letter x ≡ true → not (is_space x) ≡ true
 letter_no_space x h = grind (arith, nat_tests)
@@ -58,20 +56,12 @@ word_good x h = grind (arith, nat_tests)
 digit_good : (x : ℕ) → is_digit x ≡ true → is_good x ≡ true
 digit_good x h = grind (arith, nat_tests)
 
-or_last : (a b : Bool) → b ≡ true → (a || b) ≡ true
-or_last true b h = refl
-or_last false b h = h
-
 space_good : (x : ℕ) → is_space x ≡ true → is_good x ≡ true
-space_good x h = or_last (nat_le 32 x && nat_le x 126) (is_space x) h
-
-both : (a b : Bool) → a ≡ true → b ≡ true → (a && b) ≡ true
-both true b h k = k
-both false b h k = let no : ⊥ = cc in absurd no
+space_good x h = or_right (nat_le 32 x && nat_le x 126) (is_space x) h
 
 all_pass : (p q : ℕ → Bool) → ((x : ℕ) → p x ≡ true → q x ≡ true) → (xs : List ℕ) → list_all p xs ≡ true → list_all q xs ≡ true
 all_pass p q f [] h = refl
-all_pass p q f (x ∷ xs) h = both (q x) (list_all q xs) (f x (and_first (p x) (list_all p xs) h)) (all_pass p q f xs (and_second (p x) (list_all p xs) h))
+all_pass p q f (x ∷ xs) h = and_from (q x) (list_all q xs) (f x (and_first (p x) (list_all p xs) h)) (all_pass p q f xs (and_second (p x) (list_all p xs) h))
 
 name_begins : (v : Version) (w : List ℕ) → IsName v w → BeginsWith no_space w
 name_begins v [] name = name.first
@@ -185,8 +175,8 @@ laid_good v names b (k ∷ ks) can =
     let w = token_text names k in
     let rest = laid names (after b (sort_of k)) ks in
     list_all-append is_good g (w ++ rest)
-    ∙ both (list_all is_good g) (list_all is_good (w ++ rest)) (all_pass is_space is_good space_good g (gap_space b (sort_of k)))
-    (list_all-append is_good w rest ∙ both (list_all is_good w) (list_all is_good rest) (token_good v names k can.0) (laid_good v names (after b (sort_of k)) ks can.1))
+    ∙ and_from (list_all is_good g) (list_all is_good (w ++ rest)) (all_pass is_space is_good space_good g (gap_space b (sort_of k)))
+    (list_all-append is_good w rest ∙ and_from (list_all is_good w) (list_all is_good rest) (token_good v names k can.0) (laid_good v names (after b (sort_of k)) ks can.1))
 
 -- ---- reading
 -- The text is read from an offset on as these tokens.
@@ -220,7 +210,7 @@ token_read names k ks (x ∷ w) rest begins lexes reads at =
     let shorter : length (x ∷ w) - 1 ≡ length w = omega arith in
     record {
       scanned = t ∷ r.scanned;
-      lexemes = ap (λ (b : Bool). if b then scanned_from 0 (at + 1) (w ++ rest) else found at (lexeme_of (x ∷ (w ++ rest))) (λ more. scanned_from more (at + 1) (w ++ rest))) (not_space (is_space x) begins)
+      lexemes = ap (λ (b : Bool). if b then scanned_from 0 (at + 1) (w ++ rest) else found at (lexeme_of (x ∷ (w ++ rest))) (λ more. scanned_from more (at + 1) (w ++ rest))) (not-true (is_space x) begins)
           ∙ ap (λ o. found at o (λ more. scanned_from more (at + 1) (w ++ rest))) lexes
           ∙ ap (λ (n : ℕ). in_front t (scanned_from n (at + 1) (w ++ rest))) shorter
           ∙ ap (in_front t) (skip_word w rest (at + 1) ∙ r.lexemes);

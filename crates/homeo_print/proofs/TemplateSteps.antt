@@ -2,6 +2,7 @@
 use Rattle.std.proofs.Common.{◌≡◌, ℕ, ◌+◌, ◌<◌, List, [], ◌∷◌, ◌++◌, map, length, take, get_or, refl, sym, ap, ◌∙◌, arith}
 use Rattle.std.specs.Prelude.{ℤ}
 use Rattle.std.proofs.lemmas.List.{length-map, length-take-le}
+use Rattle.homeo_lemmas.proofs.Lists.{map_take_more}
 use Rattle.homeo_syntax.specs.Listed.{Listed}
 use Rattle.homeo_syntax.specs.Source as s
 use Rattle.homeo_plan.specs.PlanView.{plain_clause}
@@ -9,7 +10,6 @@ use Rattle.homeo_plan.specs.declared.templates.Clause.{Clause}
 use Rattle.homeo_plan.specs.Template as template
 use Rattle.homeo_print.specs.Key.{definitions}
 use Rattle.homeo_print.specs.Treaties.{clause_text, clauses_text}
-use Rattle.homeo_print.proofs.OneMore.{views_more}
 use Rattle.homeo_print.proofs.TreatySteps.{clauses_push, treaty_steps}
 
 pub no_clauses : (w : s.Workload) (bounds : List (List ℤ)) → clauses_text w (map plain_clause []) bounds ≡ []
@@ -29,8 +29,8 @@ clauses_more w clauses bounds i c b many within is_clause is_bounds =
     let bs : List (List ℤ) = lists (take i bounds) in
     let clause_count : length cs ≡ i = omega (arith, length-map (take i clauses) plain_clause, length-take-le i clauses (omega arith)) in
     let bounds_count : length bs ≡ i = omega (arith, length-map (take i bounds) (λ (b : Listed ℤ). b.items), length-take-le i bounds (omega (arith, many))) in
-    ap (λ l. clauses_text w l (lists (take (i + 1) bounds))) (views_more plain_clause clauses i c within is_clause)
-    ∙ ap (clauses_text w (cs ++ plain_clause c ∷ [])) (views_more (λ (b : Listed ℤ). b.items) bounds i b (omega (arith, many)) is_bounds)
+    ap (λ l. clauses_text w l (lists (take (i + 1) bounds))) (map_take_more plain_clause clauses i c within is_clause)
+    ∙ ap (clauses_text w (cs ++ plain_clause c ∷ [])) (map_take_more (λ (b : Listed ℤ). b.items) bounds i b (omega (arith, many)) is_bounds)
     ∙ clauses_push w cs bs (plain_clause c) b.items (bounds_count ∙ sym clause_count)
     ∙ ap (λ k. clauses_text w cs bs ++ clause_text w k (plain_clause c) b.items) clause_count
 
