@@ -1,5 +1,5 @@
 -- What a desk sends again, or by itself.
-use Rattle.std.proofs.Common.{◌≡◌, List, [], ◌∷◌, ◌++◌, ℕ, suc, ◌+◌, length, arith, map, take, drop, refl, sym, ap, subst, ◌∙◌, append-nil}
+use Rattle.std.proofs.Common.{◌≡◌, List, [], ◌∷◌, ◌++◌, ℕ, map, take, drop, refl, sym, ap, subst, ◌∙◌, append-nil}
 use Rattle.std.proofs.lemmas.List.{map-append, take-append-drop}
 use Rattle.std.proofs.lemmas.List.Elements.{Contains-append_left, Contains-push}
 use Rattle.std.proofs.Common.{⊎_elim}
@@ -11,7 +11,7 @@ use Rattle.homeo_nodes.specs.declared.breach.Breach.{Breach}
 use Rattle.homeo_nodes.specs.declared.breach.Mode.{Mode}
 use Rattle.homeo_nodes.specs.Key.{definitions}
 use Rattle.homeo_nodes.specs.Nodes as n
-use Rattle.homeo_nodes.specs.Nodes.{Ticked, of_mode, of_choice, of_past, of_states, resent}
+use Rattle.homeo_nodes.specs.Nodes.{Ticked, of_mode, of_choice, of_past, resent}
 use Rattle.homeo_nodes.specs.Small.{Small, grown}
 use Rattle.homeo_desk.specs.declared.output.Output.{Output}
 use Rattle.homeo_desk.specs.DeskView.{DeskValue}
@@ -65,10 +65,3 @@ stop_more ps p before None h i = tt
 stop_more ps p before (Some b) h i =
     ⊎_elim (λ e. subst (Contains (ps ++ p ∷ [])) e (Contains-push ps p))
     (λ e. Contains-append_left ps (p ∷ []) (n.Stop b) (let g : IfSome (Some b) (λ c. Contains ps (n.Stop c)) = subst (λ o. IfSome o (λ c. Contains ps (n.Stop c))) e h in g)) i
-
--- ---- what all sites have said, one site more
-pub states_more : (round k : ℕ) (states : List n.Said) (said : n.Said) → of_states round k (states ++ said ∷ []) ≡ of_states round k states ++ n.State round (k + length states) said ∷ []
-states_more round k [] said = ap (λ j. n.State round j said ∷ []) (let same : k ≡ k + 0 = omega arith in same)
-states_more round k (first ∷ states) said =
-    ap (λ l. n.State round k first ∷ l) (states_more round (suc k) states said
-    ∙ ap (λ j. of_states round (suc k) states ++ n.State round j said ∷ []) (let same : suc k + length states ≡ k + length (first ∷ states) = omega arith in same))

@@ -4,12 +4,12 @@ use Rattle.homeo_nodes.specs.Nodes as n
 use Rattle.homeo_nodes.specs.Nodes.{of_past, of_states}
 use Rattle.homeo_live.specs.Key.{definitions}
 use Rattle.homeo_live.specs.LiveView.{plain_past}
+use Rattle.homeo_live.proofs.LiveLists.{states_push}
 use Rattle.homeo_carry.specs.CarryView.{plain_said}
 use Rattle.homeo_desk.specs.Moves.{IsMove}
 use Rattle.std.proofs.lemmas.List.{map-append, length-append, length-map}
 use Rattle.homeo_desk.proofs.Giving.{in_left, in_right, in_itself, gives_nothing}
 use Rattle.homeo_desk.proofs.Moving.{stays, then, of_wider}
-use Rattle.homeo_desk.proofs.Resending.{states_more}
 use Rattle.homeo_desk.proofs.desk.Desk.take_left.Goals as goal
 
 pub returns-then-len-sites-clause-moves : goal.returns-then-len-sites-clause-moves
@@ -38,7 +38,7 @@ loop-said-preserved c =
     let is = c.loop-said.invariant.site in
     let long : 0 + length before ≡ c.loop-said.site = omega arith in
     let all : n.Stop b ∷ of_states b.round 0 (map plain_said (c.loop-said.yielded ++ c.in-Some.said ∷ [])) ≡ given ++ packet ∷ [] =
-    ap (λ l. n.Stop b ∷ l) (ap (of_states b.round 0) (map-append plain_said c.loop-said.yielded (c.in-Some.said ∷ [])) ∙ states_more b.round 0 before said
+    ap (λ l. n.Stop b ∷ l) (ap (of_states b.round 0) (map-append plain_said c.loop-said.yielded (c.in-Some.said ∷ [])) ∙ states_push b.round 0 before said
     ∙ ap (λ k. of_states b.round 0 before ++ n.State b.round k said ∷ []) long) in
     record {
       work = search rules;
