@@ -4,8 +4,9 @@ use Rattle.std.specs.List.{list_any}
 use Rattle.std.specs.Str.{bytes_eq}
 use Rattle.serde_json.specs.Data.{Data}
 use Rattle.serde_json.specs.Find.{as_str}
+use Rattle.homeo_lemmas.proofs.Lists.{drop_past}
 use Rattle.homeo_lines.specs.Read.{distinct}
-use Rattle.homeo_lines.proofs.Lists.{next, past}
+use Rattle.homeo_lines.proofs.Lists.{next}
 
 -- the first of the values, so many, are these texts
 pub record AreDistinct {V : Type 0} (see : V → Data) (vs : List V) (i : ℕ) (done : List (List ℕ)) : Type 0 where
@@ -53,7 +54,7 @@ module _ {V : Type 0} (see : V → Data) (vs : List V) (i : ℕ) (v : V) (done :
 
 pub distinct_all : {V : Type 0} (see : V → Data) (vs : List V) (i : ℕ) (done : List (List ℕ)) → length vs ≤ i → AreDistinct see vs i done → Some done ≡ distinct [] (map see vs)
 distinct_all see vs i done l h =
-    sym (h.is ∙ ap (λ ws. option_map (λ ts. done ++ ts) (distinct done (map see ws))) (past vs i l) ∙ ap Some (append-nil done))
+    sym (h.is ∙ ap (λ ws. option_map (λ ts. done ++ ts) (distinct done (map see ws))) (drop_past vs i l) ∙ ap Some (append-nil done))
 
 -- ---- whether one of a list passes
 pub any_here : {A : Type 0} (test : A → Bool) (xs : List A) (i : ℕ) (x : A) → i < length xs → x ≡ get_or xs i x → test x ≡ true → list_any test (drop i xs) ≡ true
@@ -63,7 +64,7 @@ pub any_later : {A : Type 0} (test : A → Bool) (xs : List A) (i : ℕ) (x : A)
 any_later test xs i x l e h = ap (list_any test) (next xs i x l e) ∙ ap (λ b. b || list_any test (drop (suc i) xs)) h
 
 pub any_never : {A : Type 0} (test : A → Bool) (xs : List A) (i : ℕ) → length xs ≤ i → list_any test (drop i xs) ≡ false
-any_never test xs i l = ap (list_any test) (past xs i l)
+any_never test xs i l = ap (list_any test) (drop_past xs i l)
 
 pub ruleset distinct_steps = (distinct_none, distinct_stops, distinct_again, distinct_more, distinct_all)
 

@@ -3,6 +3,7 @@ use Rattle.std.proofs.Common.{◌≡◌, ℕ, zero, suc, ◌+◌, ◌<◌, ◌�
 use Rattle.std.proofs.lemmas.List.{map-append, length-map}
 use Rattle.serde_json.specs.Data.{Data}
 use Rattle.serde_json.specs.View.{items_of}
+use Rattle.homeo_lemmas.proofs.Lists.{drop_past}
 use Rattle.homeo_lines.specs.Members.{list_of, each_from}
 
 pub list_of-items_of : (ds : List Data) → list_of (items_of ds) ≡ ds
@@ -25,12 +26,6 @@ pub next : {V : Type 0} (vs : List V) (i : ℕ) (v : V) → i < length vs → v 
 next [] i v l e = absurd (omega (arith, l))
 next (w ∷ vs) zero v l e = ap (λ u. u ∷ vs) (sym e)
 next (w ∷ vs) (suc i) v l e = next vs i v (omega (arith, l)) e
-
-pub past : {V : Type 0} (vs : List V) (i : ℕ) → length vs ≤ i → drop i vs ≡ []
-past [] zero l = refl
-past [] (suc i) l = refl
-past (w ∷ vs) zero l = absurd (omega (arith, l))
-past (w ∷ vs) (suc i) l = past vs i (omega (arith, l))
 
 pub first_none : {A B V : Type 0} (f : ℕ → A → Option B) (see : V → A) (vs : List V) → AreFirst f see vs 0 []
 first_none f see vs = record { is = append_nothing (each_from f 0 (map see vs)) }
@@ -66,6 +61,6 @@ pub first_all :
     {A B V : Type 0} (f : ℕ → A → Option B) (see : V → A) (vs : List V) (i : ℕ) (done : List B) → length vs ≤ i → AreFirst f see vs i done →
     Some done ≡ each_from f 0 (map see vs)
 first_all f see vs i done l h =
-    sym (h.is ∙ ap (λ ws. option_map (λ ys. done ++ ys) (each_from f i (map see ws))) (past vs i l) ∙ ap Some (append-nil done))
+    sym (h.is ∙ ap (λ ws. option_map (λ ys. done ++ ys) (each_from f i (map see ws))) (drop_past vs i l) ∙ ap Some (append-nil done))
 
 pub ruleset list_steps = (list_of-items_of, length-map, first_none, first_more, first_seen, first_stops, first_all)

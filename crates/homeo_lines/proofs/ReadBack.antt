@@ -23,6 +23,7 @@ use Rattle.homeo_meaning.specs.declared.call.CallId.{CallId}
 use Rattle.homeo_plan.specs.declared.treaty.Broken.{Broken}
 use Rattle.homeo_plan.specs.Each.{Each}
 use Rattle.homeo_plan.specs.Planned.{sites_of}
+use Rattle.homeo_plan.proofs.Covering.{each_map}
 use Rattle.homeo_nodes.specs.declared.breach.Breach.{Breach}
 use Rattle.homeo_nodes.specs.Nodes.{Said, Past, Packet, Want, Stop, State}
 use Rattle.homeo_print.specs.Names.{object_names}
@@ -104,11 +105,6 @@ list_becomes n f g xs h =
       deep = omega (arith, k.deep);
       utf8 = IsUtf8-append (91 ∷ []) (items_text false (items_of (map f xs))) (IsUtf8-are_ascii (91 ∷ []) refl) (k.utf8 false);
     }
-
-each_by : {X : Type 0} (P Q : X → Type 0) → ((x : X) → P x → Q x) → (xs : List X) → Each P xs → Each Q xs
-unfolding plan_definitions
-each_by P Q f [] h = tt
-each_by P Q f (x ∷ xs) h = (f x h.0, each_by P Q f xs h.1)
 
 -- ---- objects
 abbrev put_fields : List Field → Members → Members
@@ -312,14 +308,14 @@ module _ (w : s.Workload) (names : AreNamed w) where
       made deltas calls = Some (record { deltas = deltas; calls = calls })
 
   deltas_stay : (ns : List ℤ) → Each IsValue ns → Becomes 1 (wholes_data ns) (wholes_data ns)
-  deltas_stay ns h = list_becomes 0 whole_data whole_data ns (each_by IsValue (λ n. Becomes 0 (whole_data n) (whole_data n)) (λ n v. stays 0 0 (whole_data n) (omega arith) (value_stays n v)) ns h)
+  deltas_stay ns h = list_becomes 0 whole_data whole_data ns (each_map IsValue (λ n. Becomes 0 (whole_data n) (whole_data n)) (λ n v. stays 0 0 (whole_data n) (omega arith) (value_stays n v)) ns h)
 
   calls_stay : (n site : ℕ) (cs : List CallId) → Each (IsSmallCall w site) cs → 2 ≤ n → FieldsBecome n (calls_fields w cs) (calls_fields w cs)
   calls_stay n site [] h few = no_fields n
   calls_stay n site (c ∷ cs) h few =
       more_fields n (codes "calls") _ _ _ _ refl
       (deeper 2 n _ _ few
-      (list_becomes 1 (call_data w) (call_data w) (c ∷ cs) (each_by (IsSmallCall w site) (λ x. Becomes 1 (call_data w x) (call_data w x)) (λ x k. stays 1 1 (call_data w x) (omega arith) (call_stays site x k)) (c ∷ cs) h)))
+      (list_becomes 1 (call_data w) (call_data w) (c ∷ cs) (each_map (IsSmallCall w site) (λ x. Becomes 1 (call_data w x) (call_data w x)) (λ x k. stays 1 1 (call_data w x) (omega arith) (call_stays site x k)) (c ∷ cs) h)))
       (no_fields n)
 
   said_stays : (n site : ℕ) (x : Said) → IsSmallSaid w site x → 2 ≤ n → FieldsBecome n (said_fields w x) (said_fields w x)

@@ -7,11 +7,12 @@ use Rattle.serde_json.specs.Data.{Data, Members, member, no_members}
 use Rattle.serde_json.specs.Events.{items_len, members_len, number_event, SendsValue, SendsItems, SendsMembers}
 use Rattle.serde_json.specs.Find.{of_integer}
 use Rattle.serde_json.specs.View.{items_of}
+use Rattle.homeo_lemmas.proofs.Lists.{drop_past}
 use Rattle.homeo_certificate.specs.Json.{whole_data, list_data}
 use Rattle.homeo_print.specs.Names.{name_at}
 use Rattle.homeo_lines.specs.Written.{Field, members_of, object_of, maybe_data, key_of, named_values}
 use Rattle.homeo_lines.specs.inner.Sends.{SendsField, SendsFields, Begins}
-use Rattle.homeo_lines.proofs.Lists.{next, past}
+use Rattle.homeo_lines.proofs.Lists.{next}
 
 -- ---- lists
 -- of all, those before the rest are sent: whatever ends the list well from here ends it well from the start
@@ -40,7 +41,7 @@ list_sent f xs n i old first last new count over begun so_far ended =
     let counted : n ≡ items_len (items_of (map f xs)) = count ∙ sym (items_counted (map f xs) ∙ length-map xs f) in (
       first,
       subst (λ m. Logs old first (seq_begins (Some m))) counted begun,
-      so_far.ends new (subst (λ ds. SendsItems (items_of (map f ds)) last new) (sym (past xs i over)) ended),
+      so_far.ends new (subst (λ ds. SendsItems (items_of (map f ds)) last new) (sym (drop_past xs i over)) ended),
     )
 
 -- ---- objects
@@ -133,7 +134,7 @@ named_sent names ns i old first last new over begun so_far ended =
     let counted : length ns ≡ members_len (members_of (named_values names 0 ns)) = sym (members_counted (named_values names 0 ns) ∙ named_counted names 0 ns) in (
       first,
       subst (λ m. Logs old first (map_begins (Some m))) counted begun,
-      so_far.ends new (subst (λ xs. SendsMembers (members_of (named_values names i xs)) last new) (sym (past ns i over)) ended),
+      so_far.ends new (subst (λ xs. SendsMembers (members_of (named_values names i xs)) last new) (sym (drop_past ns i over)) ended),
     )
 
 -- ---- numbers
