@@ -55,7 +55,6 @@ waiting_count starts n e = sym (length_map waits starts) ∙ ap length e ∙ len
 pub as_many : {X Y A B : Type 0} (f : X → A) (g : Y → B) (xs : List X) (ys : List Y) (n : ℕ) (a : A) (b : B) → map f xs ≡ replicate n a → map g ys ≡ replicate n b → length xs ≡ length ys
 as_many f g xs ys n a b p q = count f xs n a p ∙ sym (count g ys n b q)
   where
-
     count : {X A : Type 0} (f : X → A) (xs : List X) (n : ℕ) (a : A) → map f xs ≡ replicate n a → length xs ≡ n
     count f xs n a p = sym (length_map f xs) ∙ ap length p ∙ length-replicate n a
 

@@ -54,7 +54,6 @@ module _ (x i : ℕ) where
   here j zero y f h l = absurd (omega (arith, h, l))
   here j (suc n) y f h l = go (here (suc j) n y f) (j == i) refl
     where
-
       go :
           (suc j ≤ i → i < suc j + n → are_on (delta_of x i ∷ []) (terms_from (suc j) n y f) ≡ (y == x)) → (v : Bool) → (j == i) ≡ v →
           are_on (delta_of x i ∷ []) (terms_from j (suc n) y f) ≡ (y == x)

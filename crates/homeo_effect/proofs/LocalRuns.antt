@@ -52,7 +52,6 @@ module _ (b : ℕ → ℤ) (i : ℕ) where
   stays_alone (Write (Base x) e) s st w a = absurd st
   stays_alone (Write (Delta x j) e) s st w a = record { bases = a.bases; others = λ y k q. other y k q }
     where
-
       other : (y k : ℕ) → (k == i) ≡ false → cond ((x == y) && (j == k)) (value e s) (s (DeltaAt y k)) ≡ pos 0
       other y k q =
           let own : j ≡ i = w.0 in

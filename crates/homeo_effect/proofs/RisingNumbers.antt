@@ -135,7 +135,6 @@ module _ (n : ℕ) where
   kept_from k [] = refl
   kept_from k (x ∷ xs) = go (kept_from k xs) (kept_from x xs) (x == k) refl
     where
-
       go :
           has n (dedup_from eqb k xs) ≡ ((n == k) || has n xs) → has n (dedup_from eqb x xs) ≡ ((n == x) || has n xs) →
           (v : Bool) → (x == k) ≡ v → has n (cond v (dedup_from eqb k xs) (k ∷ dedup_from eqb x xs)) ≡ ((n == k) || has n (x ∷ xs))

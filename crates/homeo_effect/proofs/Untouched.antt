@@ -32,7 +32,6 @@ module _ (d : Delta) where
       delta_stays cs _ st.1 parts.1
       ∙ ap (λ v. cond v (value e s) (s (DeltaAt d.object d.site))) (other x j parts.0)
     where
-
       other : (x j : ℕ) → ((d.object == x) && (d.site == j)) ≡ false → ((x == d.object) && (j == d.site)) ≡ false
       other x j h = ap₂ ◌&&◌ (nat_turned x d.object) (nat_turned j d.site) ∙ h
   delta_stays (MoreCommand (Print e) cs) s st h = delta_stays cs s st.1 h

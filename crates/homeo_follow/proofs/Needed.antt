@@ -191,7 +191,6 @@ module _ (k i : ℕ) (inside : i < k) (b : ℕ → ℤ) where
         minus_itself (factor e (expanded k object).terms),
       )
     where
-
       own_elsewhere : factor e (delta_form (delta_of x i)).terms ≡ pos 0
       own_elsewhere = go (same_delta (delta_of x i) e) refl
         where

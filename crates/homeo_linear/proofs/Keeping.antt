@@ -13,7 +13,8 @@ use Rattle.homeo_meaning.specs.Meaning.{compared}
 use Rattle.homeo_meaning.specs.LowMeaning.{State, holds, whole}
 use Rattle.homeo_meaning.specs.Serial.{values_of}
 use Rattle.homeo_meaning.specs.Small.{IsSmall}
-use Rattle.homeo_meaning.proofs.Steps.{drop_next, drop_none}
+use Rattle.homeo_lemmas.proofs.Lists.{map_drop_past}
+use Rattle.homeo_meaning.proofs.Steps.{drop_next}
 use Rattle.homeo_plan.specs.Key.{definitions as plan_definitions}
 use Rattle.homeo_plan.specs.Atoms.{true_cond}
 use Rattle.homeo_plan.specs.FormSizes.{CanTest, CanCond}
@@ -126,7 +127,7 @@ one_more_passed {fs} {ts} {i} {t} k s v n q =
 
 pub all_passed : {fs : Forms} {ts : List LTest} {i : ℕ} → length ts ≤ i → PassedSoFar fs ts i → holds_by fs (cond_of ts) ≡ true
 unfolding definitions syntax_definitions
-all_passed {fs} {ts} {i} h s = sym s.held ∙ ap (λ l. holds_by fs (low_tests l)) (drop_none plain_ltest ts i h)
+all_passed {fs} {ts} {i} h s = sym s.held ∙ ap (λ l. holds_by fs (low_tests l)) (map_drop_past plain_ltest ts i h)
 
 -- ---- the test that decides
 module _ {fs : Forms} {ts : List LTest} {i : ℕ} {t : LTest} (k : TestStep fs ts i t) (s : PassedSoFar fs ts i) (v : Bool) (n : v ≡ false)
@@ -206,7 +207,7 @@ one_more_asked {fs} {ts} {i} {t} {xs} {ys} {zs} k s h =
 pub all_asked : {fs : Forms} {ts : List LTest} {i : ℕ} {xs ys : List Linear} → length ts ≤ i → AskedSoFar fs ts i xs ys → ys ≡ xs ++ passed fs (cond_of ts)
 unfolding definitions syntax_definitions
 all_asked {fs} {ts} {i} {xs} {ys} h s =
-    sym (append-nil ys) ∙ sym (ap (λ l. ys ++ passed fs (low_tests l)) (drop_none plain_ltest ts i h)) ∙ s.behind
+    sym (append-nil ys) ∙ sym (ap (λ l. ys ++ passed fs (low_tests l)) (map_drop_past plain_ltest ts i h)) ∙ s.behind
 
 -- of a condition that holds all tests' atoms keep it
 pub held_kept : (fs : Forms) (ts : List LTest) → holds_by fs (cond_of ts) ≡ true → passed fs (cond_of ts) ≡ kept_cond fs (cond_of ts)

@@ -59,7 +59,6 @@ at_cap n h = omega (arith, clamps)
 capped_product : (m n : ℕ) → 1 ≤ m → 1 ≤ n → min 8000001 (min 8000001 m * min 8000001 n) ≡ min 8000001 (m * n)
 capped_product m n h k = by_case (nat_lt 8000001 m) (nat_lt 8000001 n) refl refl
   where
-
     least : min 8000001 n ≤ n
     least = omega (arith, clamps)
 

@@ -105,7 +105,6 @@ pub one_met :
     after ≡ clauses_from cs (set_at sets place) → AreMet more sets after
 one_met met more sets place cs after marked h put = λ n e. subst (λ l. HaveClauses l (set_at sets n)) (sym put) (go n (place == n) refl (sym (marked n) ∙ e))
   where
-
     go : (n : ℕ) (b : Bool) → (place == n) ≡ b → (if b then true else slice_index_or met n false) ≡ true → HaveClauses (clauses_from cs (set_at sets place)) (set_at sets n)
     go n true q e =
         subst (λ m. HaveClauses (clauses_from cs (set_at sets place)) (set_at sets m)) (nat_is place n q) (have_own cs (set_at sets place))

@@ -38,7 +38,6 @@ base_is_alone : (b : ℕ → ℤ) (i : ℕ) → alone b i no_deltas ≡ whole b
 unfolding plan_definitions meaning_definitions
 base_is_alone b i = fun_ext at
   where
-
     at : (p : Location) → alone b i no_deltas p ≡ whole b p
     at (TempAt t) = refl
     at (BaseAt n) = refl
