@@ -10,7 +10,9 @@ use Rattle.homeo_desk.specs.declared.output.Output.{Output}
 use Rattle.homeo_desk.specs.declared.output.Request.{Request}
 use Rattle.homeo_desk.specs.DeskView.{Reply, last_answers}
 use Rattle.homeo_desk.specs.Outputs.{packets_in, packets_of, AreIn, Given, answers_in, answers_of, replies_of, request_of, AreTold, none, told, Gives}
-use Rattle.homeo_desk.specs.inner.Keeping.{Tells}
+use Rattle.homeo_desk.specs.declared.places.Places.{Places}
+use Rattle.homeo_desk.specs.inner.Keeping.{ArePut, Tells}
+use Rattle.homeo_desk.proofs.Placing.{put_then}
 
 -- ---- packets
 pub in_itself : (ps : List n.Packet) → AreIn ps ps
@@ -80,13 +82,13 @@ gives_put ps gs before after x e i t = record {
 }
 
 -- ---- requests that are answered
-pub tells_nothing : (queue : List Request) (last : List (Option Reply)) (before : List Output) → Tells [] queue queue last last before before
-tells_nothing queue last before =
-    record { given = []; gives = gives_nothing [] before; told = none; queue = refl; answered = refl }
+pub tells_nothing : (places : Places) (queue : List Request) (last : List (Option Reply)) (before : List Output) → Tells [] places places queue queue last last before before
+tells_nothing places queue last before =
+    record { given = []; gives = gives_nothing [] before; told = none; queue = refl; answered = refl; placed = refl }
 
-pub tells_then : (ts bs : List h.Answer) (q r s : List Request) (last mid end : List (Option Reply)) (x y z : List Output) →
-    Tells ts q r last mid x y → Tells bs r s mid end y z → Tells (ts ++ bs) q s last end x z
-tells_then ts bs q r s last mid end x y z t u = record {
+pub tells_then : (ts bs : List h.Answer) (a b c : Places) (q r s : List Request) (last mid end : List (Option Reply)) (x y z : List Output) →
+    Tells ts a b q r last mid x y → Tells bs b c r s mid end y z → Tells (ts ++ bs) a c q s last end x z
+tells_then ts bs a b c q r s last mid end x y z t u = record {
   given = t.given ++ u.given;
   gives = gives_then [] [] t.given u.given x y z t.gives u.gives;
   told = told_both t.given u.given ts bs t.told u.told;
@@ -94,15 +96,17 @@ tells_then ts bs q r s last mid end x y z t u = record {
       ∙ ap (λ l. l ++ s) (sym (map-append request_of t.given u.given));
   answered = u.answered ∙ ap (last_answers (replies_of u.given)) t.answered ∙ sym (last_more (replies_of t.given) (replies_of u.given) last)
       ∙ ap (λ l. last_answers l last) (sym (map-append (λ (g : Given). g.reply) t.given u.given));
+  placed = subst (λ l. ArePut a l c) (sym (map-append (λ (g : Given). g.reply) t.given u.given)) (put_then a b c (replies_of t.given) (replies_of u.given) t.placed u.placed);
 }
 
 -- they are the first of a queue
-pub tells_before : (ts : List h.Answer) (q r : List Request) (last after : List (Option Reply)) (x y : List Output) →
-    Tells ts q [] last after x y → Tells ts (q ++ r) r last after x y
-tells_before ts q r last after x y t = record {
+pub tells_before : (ts : List h.Answer) (a b : Places) (q r : List Request) (last after : List (Option Reply)) (x y : List Output) →
+    Tells ts a b q [] last after x y → Tells ts a b (q ++ r) r last after x y
+tells_before ts a b q r last after x y t = record {
   given = t.given;
   gives = t.gives;
   told = t.told;
   queue = ap (λ l. l ++ r) t.queue ∙ append_assoc (map request_of t.given) [] r;
   answered = t.answered;
+  placed = t.placed;
 }

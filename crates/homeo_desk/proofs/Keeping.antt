@@ -1,6 +1,6 @@
 -- What a desk keeps goes on with its node.
 use Rattle.std.proofs.Common.{◌≡◌, ℕ, zero, suc, ◌+◌, List, [], ◌∷◌, ◌++◌, map, length, take, drop, replicate, Option, Some, None, refl, sym, ap, subst, ◌∙◌, append_assoc, ⊎_elim, arith, slice_set, length-append, Result, Ok, Err}
-use Rattle.std.specs.Prelude.{slice_get, All, OnOk, ◌==◌, cond}
+use Rattle.std.specs.Prelude.{slice_get, All, OnOk, ◌≤◌}
 use Rattle.std.specs.Result.{result_and}
 use Rattle.std.proofs.lemmas.Result.{on_ok_weaker}
 use Rattle.std.specs.List.{filter_map}
@@ -30,6 +30,7 @@ use Rattle.homeo_live.specs.declared.packet.Step.TheVariants as live
 use Rattle.homeo_live.specs.LiveView.{LiveValue, plain_node, plain_step}
 use Rattle.homeo_desk.specs.declared.state.DeskState.{DeskState}
 use Rattle.homeo_desk.specs.DeskView.{Reply, KeepsFirst, plain_reply, calls_of, desk_of, last_answers, no_answers}
+use Rattle.homeo_desk.specs.Places.{made_in}
 use Rattle.homeo_desk.specs.inner.Keeping.{AreLast, IsKept, closed_by, value_of}
 use Rattle.homeo_desk.proofs.Lists.{get_after, next_of}
 
@@ -102,9 +103,10 @@ all_unmapped P f xs all = all_from_get (λ x. P (f x)) xs (λ i x e. All-get P (
 -- ---- a desk whose node goes on
 pub kept_on : (work new_work : Workload) (x y : Small) (places new_places : Places) (queue rest : List Request) (last new_last : List (Option Reply)) →
     new_work ≡ work → y.number ≡ x.number → calls_of rest ≡ y.queue → KeepsFirst y →
-    (AreLast (plain_workload work) x.number last → AreLast (plain_workload work) x.number new_last) → IsKept (value_of work x places queue last) →
-    IsKept (value_of new_work y new_places rest new_last)
-kept_on work new_work x y places new_places queue rest last new_last same number paired first goes kept = record {
+    (AreLast (plain_workload work) x.number last → AreLast (plain_workload work) x.number new_last) → new_places.round ≤ y.round →
+    IsKept places (value_of work x places queue last) → IsKept new_places (value_of new_work y new_places rest new_last)
+kept_on work new_work x y places new_places queue rest last new_last same number paired first goes within kept = record {
+  round = within;
   paired = paired;
   first = first;
   last = subst (λ v. AreLast (plain_workload v) y.number new_last) (sym same) (subst (λ k. AreLast (plain_workload work) k new_last) (sym number) (goes kept.last));
@@ -113,10 +115,10 @@ kept_on work new_work x y places new_places queue rest last new_last same number
 -- a desk that begins
 pub begun_kept : (v : LiveValue) (c : Workload) (x : Small) (places : Places) (queue : List Request) (last : List (Option Reply)) →
     v ≡ record { work = c; node = x } → calls_of queue ≡ x.queue → KeepsFirst x → (AreLast (plain_workload c) x.number (no_answers (plain_workload c)) → AreLast (plain_workload c) x.number last) →
-    IsKept (value_of v.work v.node places queue last)
-begun_kept v c x places queue last is paired first goes =
-    subst (λ (u : LiveValue). IsKept (value_of u.work u.node places queue last)) (sym is)
-    (record { paired = paired; first = first; last = goes (no_last (plain_workload c) x.number) })
+    places.round ≤ x.round → IsKept places (value_of v.work v.node places queue last)
+begun_kept v c x places queue last is paired first goes within =
+    subst (λ (u : LiveValue). IsKept places (value_of u.work u.node places queue last)) (sym is)
+    (record { round = within; paired = paired; first = first; last = goes (no_last (plain_workload c) x.number) })
 
 -- ---- answers one after another
 pub next_called : (queue : List Request) (items ys rest : List memory.Answer) (made : memory.Answer) → items ≡ ys ++ made ∷ rest →
@@ -159,7 +161,7 @@ none_of (Some x) other = absurd (other x refl)
 
 -- ---- a state of a desk
 pub state_is : (work : Workload) (x : Small) (places : Places) (queue : List Request) (last : List (Option Reply)) (s : DeskState) →
-    plain_node s.node ≡ x → s.made ≡ cond (places.round == x.round) places.made 0 → s.queue.items ≡ queue →
+    plain_node s.node ≡ x → s.made ≡ made_in places.round places.made x.round → s.queue.items ≡ queue →
     map plain_reply s.answered.items ≡ filter_map (λ o. o) last → AreLast (plain_workload work) x.number last → desk_of work s ≡ value_of work x places queue last
 state_is work x places queue last s node made requests replies are =
     let answered : last_answers (map plain_reply s.answered.items) (no_answers (plain_workload work)) ≡ last =

@@ -3,6 +3,7 @@ pub mod Giving
 pub mod Keeping
 pub mod Lists
 pub mod Moving
+pub mod Placing
 pub mod Reacting
 pub mod Requests
 pub mod Resending

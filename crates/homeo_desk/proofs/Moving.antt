@@ -6,6 +6,7 @@ use Rattle.homeo_syntax.specs.Source as s
 use Rattle.homeo_syntax.specs.SourceView.{plain_workload}
 use Rattle.homeo_syntax.specs.declared.workload.Workload.{Workload}
 use Rattle.homeo_meaning.specs.declared.call.CallId.{CallId}
+use Rattle.homeo_history.specs.Answers as h
 use Rattle.homeo_nodes.specs.Key.{definitions}
 use Rattle.homeo_nodes.specs.Nodes as n
 use Rattle.homeo_nodes.specs.Nodes.{Input, Asked, Served, Came, Withdrew, Ticked}
@@ -19,7 +20,10 @@ use Rattle.homeo_desk.specs.declared.output.Request.{Request}
 use Rattle.homeo_desk.specs.DeskView.{DeskValue, calls_of, last_answers}
 use Rattle.homeo_desk.specs.Moves.{reacts, sent_after, told_after, IsOf, AreOf, IsMove}
 use Rattle.homeo_desk.specs.Outputs.{AreIn, Gives, Given, AreTold, none, request_of, replies_of}
-use Rattle.homeo_desk.specs.inner.Keeping.{Tells}
+use Rattle.homeo_desk.specs.Places.{ArePlaced}
+use Rattle.homeo_desk.specs.declared.places.Places.{Places}
+use Rattle.homeo_desk.specs.inner.Keeping.{ArePut, Tells}
+use Rattle.homeo_desk.proofs.Placing.{placed_nothing, placed_then}
 use Rattle.homeo_desk.proofs.Giving.{in_itself, in_nothing, in_both, told_both, last_more, gives_then}
 
 -- ---- inputs, one list after another
@@ -82,18 +86,24 @@ stays ps old new before after same g = record {
   told = none;
   queue = append-nil old.queue ∙ ap (λ (d : DeskValue). d.queue) (sym same);
   answered = ap (λ (d : DeskValue). d.answered) same;
+  placed = subst (λ (d : DeskValue). ArePlaced old.node.round old.made [] d.node.round d.made) (sym same) (placed_nothing old.node.round old.made);
   work = ap (λ (d : DeskValue). d.work) same;
   number = ap (λ (d : DeskValue). d.node.number) same;
 }
 
+-- where these answers are told, each is at its place
+abbrev pub PlacesAll : (a b : Places) → (old new : DeskValue) → List h.Answer → Type 0
+PlacesAll a b old new answers =
+    (given : List Given) → AreTold given answers → ArePut a (replies_of given) b → ArePlaced old.node.round old.made (replies_of given) new.node.round new.made
+
 -- by one input: its packets are let out, and its answers are told
-pub by_one : (requests : List Request) (ps : List n.Packet) (old new : DeskValue) (x y z : List Output) (input : Input) → IsOf (calls_of requests) ps input →
+pub by_one : (requests : List Request) (ps : List n.Packet) (a b : Places) (old new : DeskValue) (x y z : List Output) (input : Input) → IsOf (calls_of requests) ps input →
     new.node ≡ small (reacts (plain_workload old.work) input old.node).node → new.work ≡ old.work → new.node.number ≡ old.node.number →
     Gives (reacts (plain_workload old.work) input old.node).sends [] x y →
-    Tells (told (grown old.node) (reacts (plain_workload old.work) input old.node).step) (old.queue ++ requests) new.queue old.answered new.answered y z →
-    (m : IsMove requests ps old new x z) × (m.inputs ≡ input ∷ [])
+    Tells (told (grown old.node) (reacts (plain_workload old.work) input old.node).step) a b (old.queue ++ requests) new.queue old.answered new.answered y z →
+    PlacesAll a b old new (told (grown old.node) (reacts (plain_workload old.work) input old.node).step) → (m : IsMove requests ps old new x z) × (m.inputs ≡ input ∷ [])
 unfolding definitions
-by_one requests ps old new x y z input is node work number gives tells =
+by_one requests ps a b old new x y z input is node work number gives tells placed =
     let r = reacts (plain_workload old.work) input old.node in (
       record {
         inputs = input ∷ [];
@@ -104,6 +114,7 @@ by_one requests ps old new x y z input is node work number gives tells =
         told = subst (AreTold tells.given) (sym (append-nil (told (grown old.node) r.step))) tells.told;
         queue = tells.queue;
         answered = tells.answered;
+        placed = placed tells.given tells.told tells.placed;
         work = work;
         number = number;
       },
@@ -144,6 +155,9 @@ then requests ps qs a b c x y z m i k =
       answered =
           k.answered ∙ ap (last_answers (replies_of k.given)) m.answered ∙ sym (last_more (replies_of m.given) (replies_of k.given) a.answered)
           ∙ ap (λ l. last_answers l a.answered) (sym (map-append (λ (g : Given). g.reply) m.given k.given));
+      placed =
+          subst (λ l. ArePlaced a.node.round a.made l c.node.round c.made) (sym (map-append (λ (g : Given). g.reply) m.given k.given))
+          (placed_then a.node.round a.made b.node.round b.made c.node.round c.made (replies_of m.given) (replies_of k.given) m.placed k.placed);
       work = k.work ∙ m.work;
       number = k.number ∙ m.number;
     }
@@ -166,19 +180,20 @@ of_wider requests ps qs a b x y i m = record {
   told = m.told;
   queue = m.queue;
   answered = m.answered;
+  placed = m.placed;
   work = m.work;
   number = m.number;
 }
 
 -- by one input, and then by packets that were given or sent by the input
-pub input_then : (requests : List Request) (ps qs : List n.Packet) (old new newer : DeskValue) (u x y z : List Output) (input : Input) → IsOf (calls_of requests) ps input →
+pub input_then : (requests : List Request) (ps qs : List n.Packet) (a b : Places) (old new newer : DeskValue) (u x y z : List Output) (input : Input) → IsOf (calls_of requests) ps input →
     new.node ≡ small (reacts (plain_workload old.work) input old.node).node → new.work ≡ old.work → new.node.number ≡ old.node.number →
     Gives (reacts (plain_workload old.work) input old.node).sends [] u x →
-    Tells (told (grown old.node) (reacts (plain_workload old.work) input old.node).step) (old.queue ++ requests) new.queue old.answered new.answered x y →
-    AreIn qs (ps ++ (reacts (plain_workload old.work) input old.node).sends) → IsMove [] qs new newer y z → IsMove requests ps old newer u z
-input_then requests ps qs old new newer u x y z input is node work number gives tells i k =
+    Tells (told (grown old.node) (reacts (plain_workload old.work) input old.node).step) a b (old.queue ++ requests) new.queue old.answered new.answered x y →
+    PlacesAll a b old new (told (grown old.node) (reacts (plain_workload old.work) input old.node).step) → AreIn qs (ps ++ (reacts (plain_workload old.work) input old.node).sends) → IsMove [] qs new newer y z → IsMove requests ps old newer u z
+input_then requests ps qs a b old new newer u x y z input is node work number gives tells placed i k =
     let w = plain_workload old.work in
-    let one = by_one requests ps old new u x y input is node work number gives tells in
+    let one = by_one requests ps a b old new u x y input is node work number gives tells placed in
     let sent : sent_after w (input ∷ []) old.node ≡ sent_after w one.0.inputs old.node = ap (λ l. sent_after w l old.node) (sym one.1) in
     then requests ps qs old new newer u y z one.0
     (subst (λ l. AreIn qs (ps ++ l)) (sym (append-nil (reacts w input old.node).sends) ∙ sent) i) k

@@ -18,7 +18,7 @@ use Rattle.homeo_nodes.specs.declared.breach.Breach.{Breach}
 use Rattle.homeo_nodes.specs.declared.breach.Mode.{Mode}
 use Rattle.homeo_nodes.specs.declared.breach.Mode.TheVariants.{Running, Waiting, Stopped}
 use Rattle.homeo_nodes.specs.Nodes as n
-use Rattle.homeo_nodes.specs.Nodes.{Said, Node, Reaction, Packet, rest_of, calls_at, own_calls, answers_then, all_of, settled_by, settled, told_by, closing_step, stopped, keeping, said_by, has_state, is_stopped, is_arbiter, taken, received, tried, served_by, served, asked}
+use Rattle.homeo_nodes.specs.Nodes.{Said, Node, Reaction, Packet, rest_of, calls_at, own_calls, answers_then, all_of, settled_by, settled, told_by, closing_step, closed, stopped, keeping, said_by, has_state, is_stopped, is_arbiter, taken, received, tried, served_by, served, asked}
 use Rattle.homeo_nodes.specs.Small.{Small, small, grown}
 use Rattle.homeo_nodes.specs.Told.{told}
 use Rattle.homeo_nodes.proofs.Brief.{brief_closes}
@@ -32,6 +32,7 @@ use Rattle.homeo_live.specs.LiveView.{plain_step}
 use Rattle.homeo_desk.specs.DeskView.{IsFirst, HasSaid, IsStopped, KeepsFirst}
 use Rattle.homeo_desk.specs.inner.Keeping.{FitsQueue, closed_by}
 use Rattle.homeo_desk.proofs.Answering.{answers_own}
+use Rattle.homeo_desk.proofs.Placing.{Rises, rounds_of, closing_rises}
 
 abbrev nothing : Said
 nothing = record { deltas = []; calls = [] }
@@ -76,6 +77,7 @@ pub record Keeps (w : s.Workload) (x : Node) (r : Reaction) : Type 0 where
   pub first : KeepsFirst (small r.node)
   pub number : r.node.journal.site.number ≡ x.journal.site.number
   pub states : length r.node.states ≡ sites_of w
+  pub rises : Rises x.journal.site.round (rounds_of (told x r.step)) r.node.journal.site.round
 
 -- and tells nothing but what the end of a round does
 pub record Closes (w : s.Workload) (x : Node) (r : Reaction) : Type 0 where
@@ -90,16 +92,22 @@ module _ (w : s.Workload) (x : Node) (below : x.journal.site.number < sites_of w
   unchanged : (step : n.Step) → told x step ≡ [] → closed_by step ≡ [] → Closes w x (n.stays x step)
   unfolding definitions
   unchanged step none closed = record {
-    keeps = record { queue = ap (λ ts. map h.called ts ++ x.queue) (sym none); first = was; number = refl; states = long };
+    keeps = record {
+      queue = ap (λ ts. map h.called ts ++ x.queue) (sym none);
+      first = was;
+      number = refl;
+      states = long;
+      rises = subst (λ ts. Rises x.journal.site.round (rounds_of ts) x.journal.site.round) (sym none) (omega arith);
+    };
     told_is = none ∙ sym closed;
   }
 
   -- a node of this number, with these calls and so many places, goes on
-  module _ (y : Node) (sends : List Packet) (same : y.queue ≡ x.queue) (numbered : y.journal.site.number ≡ x.journal.site.number) (as_long : length y.states ≡ sites_of w) (first : KeepsFirst (small y)) where
+  module _ (y : Node) (sends : List Packet) (same : y.queue ≡ x.queue) (numbered : y.journal.site.number ≡ x.journal.site.number) (in_round : y.journal.site.round ≡ x.journal.site.round) (as_long : length y.states ≡ sites_of w) (first : KeepsFirst (small y)) where
     at_once : Closes w x (record { node = y; sends = sends; step = n.Taken })
     unfolding definitions
     at_once = record {
-      keeps = record { queue = sym same; first = first; number = numbered; states = as_long };
+      keeps = record { queue = sym same; first = first; number = numbered; states = as_long; rises = omega (arith, in_round) };
       told_is = refl;
     }
 
@@ -125,6 +133,7 @@ module _ (w : s.Workload) (x : Node) (below : x.journal.site.number < sites_of w
             first = tt;
             number = (brief_closes w u all y.journal all_long own).number ∙ numbered;
             states = length_replicate (sites_of w) None;
+            rises = subst (λ k. Rises k (rounds_of (answers_then w u all y.journal)) (closed w u all y.journal).site.round) in_round (closing_rises w u all y.journal all_long own);
           };
           told_is = refl;
         }
@@ -166,14 +175,14 @@ module _ (w : s.Workload) (x : Node) (below : x.journal.site.number < sites_of w
   unfolding definitions
   takes (n.Want b) fits =
       by_test (is_arbiter w x && not (is_some x.decided)) _ _
-      (λ e. record { keeps = record { queue = refl; first = was; number = refl; states = long }; told_is = refl })
+      (λ e. record { keeps = record { queue = refl; first = was; number = refl; states = long; rises = omega arith }; told_is = refl })
       (λ e. unchanged n.Ignored refl refl)
   takes (n.Stop b) fits =
       by_test (is_stopped x.mode) _ _ (λ e. unchanged n.Ignored refl refl)
-      (λ e. settles (stopped x b) _ refl refl (length_set x.states x.journal.site.number (Some (said_by x)) ∙ long) (stop_first b fits))
+      (λ e. settles (stopped x b) _ refl refl refl (length_set x.states x.journal.site.number (Some (said_by x)) ∙ long) (stop_first b fits))
   takes (n.State round site said) fits =
       by_test (has_state x.states site) _ _ (λ e. unchanged n.Ignored refl refl)
-      (λ e. settles (keeping x site said) _ refl refl (length_set x.states site (Some said) ∙ long) (other_said x.mode site said e was))
+      (λ e. settles (keeping x site said) _ refl refl refl (length_set x.states site (Some said) ∙ long) (other_said x.mode site said e was))
 
   pub receives : (p : Packet) → FitsQueue p x.journal.site.number x.queue → Closes w x (received w p x)
   unfolding definitions
@@ -182,13 +191,13 @@ module _ (w : s.Workload) (x : Node) (below : x.journal.site.number < sites_of w
   -- ---- a call
   tries : (call : CallId) (queue : List CallId) (o : Option Broken) → x.queue ≡ call ∷ queue → is_stopped x.mode ≡ false → Keeps w x (tried w x call queue o)
   unfolding definitions history_definitions site_definitions
-  tries call queue None e runs = record { queue = e; first = not_stopped x.mode runs; number = refl; states = long }
+  tries call queue None e runs = record { queue = e; first = not_stopped x.mode runs; number = refl; states = long; rises = (omega arith, omega arith) }
     where
       not_stopped : (m : Mode) → is_stopped m ≡ false → IsStopped m x.journal.site.number x.states queue
       not_stopped Running f = tt
       not_stopped (Waiting b) f = tt
       not_stopped (Stopped b) f = absurd (cc)
-  tries call queue (Some broken) e runs = record { queue = refl; first = tt; number = refl; states = long }
+  tries call queue (Some broken) e runs = record { queue = refl; first = tt; number = refl; states = long; rises = omega arith }
 
   serves_by : (queue : List CallId) → x.queue ≡ queue → is_stopped x.mode ≡ false → Keeps w x (served_by w x queue)
   unfolding definitions
@@ -294,6 +303,10 @@ module _ (x : Small) (call : CallId) (room : length x.queue < 64) where
   pub asked_number : (small (asked call (grown x)).node).number ≡ x.number
   unfolding definitions
   asked_number = ap (λ (r : Reaction). r.node.journal.site.number) asked_is
+
+  pub asked_round : (small (asked call (grown x)).node).round ≡ x.round
+  unfolding definitions
+  asked_round = ap (λ (r : Reaction). r.node.journal.site.round) asked_is
 
   pub asked_first : KeepsFirst x → KeepsFirst (small (asked call (grown x)).node)
   unfolding definitions

@@ -20,6 +20,8 @@ use Rattle.homeo_desk.specs.Outputs.{AreIn, Gives}
 use Rattle.homeo_desk.proofs.Giving.{in_itself, in_left, in_right, gives_nothing, gives_wider, tells_nothing}
 use Rattle.homeo_desk.specs.inner.Keeping.{Tells}
 use Rattle.homeo_desk.proofs.Moving.{by_one, input_then}
+use Rattle.homeo_desk.proofs.Placing.{nothing_placed}
+use Rattle.homeo_desk.specs.declared.places.Places.{Places}
 
 pub mode_resent : (x : Small) (m : Mode) → x.mode ≡ m → AreIn (of_mode (grown x) m) (resent (grown x))
 unfolding definitions
@@ -36,21 +38,27 @@ unfolding definitions
 past_resent x = in_right (of_past x.past) (of_mode (grown x) x.mode) (of_choice x.decided ++ of_past x.past)
     (in_right (of_past x.past) (of_choice x.decided) (of_past x.past) (in_itself (of_past x.past)))
 
+-- no answer is told, so it's no matter where
+nowhere : Places
+nowhere = record { round = 0; made = 0 }
+
 -- the desk stays, and gives some of what its node would send again
 pub by_tick : (ps qs : List n.Packet) (old : DeskValue) (before after : List Output) → AreIn qs (resent (grown old.node)) → Gives qs [] before after →
     IsMove [] ps old old before after
 unfolding definitions
 by_tick ps qs old before after i g =
-    (by_one [] ps old old before after after Ticked tt refl refl refl (gives_wider qs (resent (grown old.node)) [] before after i g)
-    (subst (λ q. Tells [] q old.queue old.answered old.answered after after) (sym (append-nil old.queue)) (tells_nothing old.queue old.answered after))).0
+    (by_one [] ps nowhere nowhere old old before after after Ticked tt refl refl refl (gives_wider qs (resent (grown old.node)) [] before after i g)
+    (subst (λ q. Tells [] nowhere nowhere q old.queue old.answered old.answered after after) (sym (append-nil old.queue)) (tells_nothing nowhere old.queue old.answered after))
+    (λ given tell are. nothing_placed given tell old.node.round old.made)).0
 
 -- the desk stays, and is given some of what its node would send again
 pub tick_then : (ps qs : List n.Packet) (old newer : DeskValue) (y z : List Output) → AreIn qs (resent (grown old.node)) → IsMove [] qs old newer y z →
     IsMove [] ps old newer y z
 unfolding definitions
 tick_then ps qs old newer y z i k =
-    input_then [] ps qs old old newer y y y z Ticked tt refl refl refl (gives_nothing (resent (grown old.node)) y)
-    (subst (λ q. Tells [] q old.queue old.answered old.answered y y) (sym (append-nil old.queue)) (tells_nothing old.queue old.answered y))
+    input_then [] ps qs nowhere nowhere old old newer y y y z Ticked tt refl refl refl (gives_nothing (resent (grown old.node)) y)
+    (subst (λ q. Tells [] nowhere nowhere q old.queue old.answered old.answered y y) (sym (append-nil old.queue)) (tells_nothing nowhere old.queue old.answered y))
+    (λ given tell are. nothing_placed given tell old.node.round old.made)
     (in_right qs ps (resent (grown old.node)) i) k
 
 pub first_in : (k : ℕ) (xs : List Packet) (ps : List n.Packet) → map plain_packet xs ≡ ps → AreIn (map plain_packet (take k xs)) ps

@@ -4,6 +4,7 @@ use Rattle.homeo_history.specs.Key.{definitions as history_definitions}
 use Rattle.homeo_nodes.specs.Key.{definitions}
 use Rattle.std.proofs.Common.{inl, inr, ◌≡◌, ℕ, zero, suc, ◌<◌, ◌≤◌, List, [], ◌∷◌, ◌++◌, length, eqb, true, Option, Some, None, refl, sym, ap, subst, ◌∙◌, append-nil, append_assoc, arith, slice_set}
 use Rattle.std.specs.Prelude.{slice_get, ◌⊎◌, All, Contains, IsSome, option_map, nat_lt, ◌&&◌}
+use Rattle.std.proofs.lemmas.List.{map-append}
 use Rattle.std.specs.List.{range_with_len}
 use Rattle.std.specs.Option.{option_and_then, option_map_or}
 use Rattle.std.proofs.lemmas.Bool.Decides.{nat_tests}
@@ -28,9 +29,11 @@ use Rattle.homeo_nodes.specs.Told.{told, told_by_node, told_here, told_in}
 use Rattle.homeo_nodes.proofs.Smaller.{same_reactions}
 use Rattle.homeo_desk.specs.DeskView.{DeskValue, calls_of}
 use Rattle.homeo_desk.specs.Moves.{reacts, sent_after, told_after, IsOf, AreOf}
-use Rattle.homeo_desk.specs.Outputs.{AreIn, AreTold, none, packets_of}
+use Rattle.homeo_desk.specs.Outputs.{AreIn, AreTold, Given, none, packets_of, replies_of}
+use Rattle.homeo_desk.specs.Places.{ArePlaced}
 use Rattle.homeo_desk.specs.Runs.{Told, Desks, Moves, IsRun, begin, go_on, first_told, first_desks, AreNodes, RunsAreEvents}
 use Rattle.homeo_desk.proofs.Giving.{in_itself, in_both, told_both}
+use Rattle.homeo_desk.proofs.Placing.{placed_nothing, placed_then}
 
 -- ---- a call of a client of the site is listed
 number_in : (calls : List s.Call) (seq : ℕ) → IsSome (numbered seq calls) → (0 < seq) × (seq ≤ length calls)
@@ -221,6 +224,8 @@ first_led work =
             (first_node w k.0, get_map (first_node w) sites i k.0 k.1.0, ap (λ (v : Told). v.desk.node) k.1.1);
         packets = in_itself [];
         told = λ i t e. let k = get_map_back (first_told work) sites i t e in subst (λ (v : Told). AreTold v.given []) k.1.1 none;
+        placed = λ i t e. let k = get_map_back (first_told work) sites i t e in
+            subst (λ (v : Told). ArePlaced 0 0 (replies_of v.given) v.desk.node.round v.desk.made) k.1.1 (placed_nothing 0 0);
       };
     }
 
@@ -297,6 +302,19 @@ module _ (work : Workload) (x y : Desks) (led : IsLed work x) (moves : Moves x y
           subst (λ l. AreTold t.given (told_in w k (at_start w) led.events ++ l)) (sym (went.told_none k h.0))
           (subst (AreTold t.given) (sym (append-nil (told_in w k (at_start w) led.events))) (led.are.told k t h.1))
 
+  desks_placed : (k : ℕ) (t : Told) → slice_get y.desks k ≡ Some t → ArePlaced 0 0 (replies_of t.given) t.desk.node.round t.desk.made
+  desks_placed k t e = ⊎_elim own other (desk_at k t e)
+    where
+      own : (k ≡ i) × (next ≡ t) → ArePlaced 0 0 (replies_of t.given) t.desk.node.round t.desk.made
+      own h =
+          subst (λ (v : Told). ArePlaced 0 0 (replies_of v.given) v.desk.node.round v.desk.made) h.1
+          (subst (λ l. ArePlaced 0 0 l moves.new.node.round moves.new.made) (sym (map-append (λ (g : Given). g.reply) moves.old.given moves.move.given))
+          (placed_then 0 0 old.node.round old.made moves.new.node.round moves.new.made (replies_of moves.old.given) (replies_of moves.move.given)
+          (led.are.placed i moves.old moves.here) moves.move.placed))
+
+      other : (k ≡ i → ⊥) × (slice_get x.desks k ≡ Some t) → ArePlaced 0 0 (replies_of t.given) t.desk.node.round t.desk.made
+      other h = led.are.placed k t h.1
+
   next_packets : AreIn y.packets (reached w events).packets
   next_packets =
       subst (λ (v : World). AreIn y.packets v.packets) (sym reached_is)
@@ -308,7 +326,7 @@ module _ (work : Workload) (x y : Desks) (led : IsLed work x) (moves : Moves x y
   next_led = record {
     one = λ k t e. ⊎_elim (λ h. ap (λ (v : Told). v.desk.work) (sym h.1) ∙ moves.move.work ∙ led.one i moves.old moves.here) (λ h. led.one k t h.1) (desk_at k t e);
     events = events;
-    are = record { nodes = next_nodes; packets = next_packets; told = desks_told };
+    are = record { nodes = next_nodes; packets = next_packets; told = desks_told; placed = desks_placed };
   }
 
 run_led : (work : Workload) (x : Desks) → IsRun work x → IsLed work x

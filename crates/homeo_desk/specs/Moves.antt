@@ -12,6 +12,7 @@ use Rattle.homeo_desk.specs.declared.output.Output.{Output}
 use Rattle.homeo_desk.specs.declared.output.Request.{Request}
 use Rattle.homeo_desk.specs.DeskView.{DeskValue, calls_of, last_answers}
 use Rattle.homeo_desk.specs.Outputs.{Given, Gives, AreTold, request_of, replies_of}
+use Rattle.homeo_desk.specs.Places.{ArePlaced}
 
 -- ---- what inputs make of a node, one after another
 abbrev pub reacts : s.Workload → Input → Small → Reaction
@@ -41,8 +42,8 @@ AreOf w calls packets (input ∷ inputs) x =
 
 -- ---- a move of a desk, which takes on these requests, and to which these packets were given
 -- By some inputs its node becomes what they make of it. It gives packets of those that the node sends by them, and the answers that the node
--- tells by them, each to the request that waited longest: the requests that waited and those that are taken on are those that are answered
--- and those that wait then, in order. The workload and the number of the site stay.
+-- tells by them, each to the request that waited longest and with its place: the requests that waited and those that are taken on are those
+-- that are answered and those that wait then, in order. The workload and the number of the site stay.
 pub record IsMove (requests : List Request) (packets : List n.Packet) (old new : DeskValue) (before after : List Output) : Type 0 where
   pub inputs : List Input
   pub are_of : AreOf (plain_workload old.work) (calls_of requests) packets inputs old.node
@@ -52,5 +53,6 @@ pub record IsMove (requests : List Request) (packets : List n.Packet) (old new :
   pub told : AreTold given (told_after (plain_workload old.work) inputs old.node)
   pub queue : old.queue ++ requests ≡ map request_of given ++ new.queue
   pub answered : new.answered ≡ last_answers (replies_of given) old.answered
+  pub placed : ArePlaced old.node.round old.made (replies_of given) new.node.round new.made
   pub work : new.work ≡ old.work
   pub number : new.node.number ≡ old.node.number

@@ -14,7 +14,8 @@ use Rattle.homeo_desk.specs.declared.output.Output.{Output}
 use Rattle.homeo_desk.specs.declared.output.Request.{Request}
 use Rattle.homeo_desk.specs.DeskView.{DeskValue, calls_of, no_answers}
 use Rattle.homeo_desk.specs.Moves.{IsMove}
-use Rattle.homeo_desk.specs.Outputs.{AreIn, AreTold, Given, packets_of}
+use Rattle.homeo_desk.specs.Outputs.{AreIn, AreTold, Given, packets_of, replies_of}
+use Rattle.homeo_desk.specs.Places.{ArePlaced}
 
 -- a desk, and all that it has answered
 pub record Told : Type 0 where
@@ -64,11 +65,12 @@ pub data IsRun (work : Workload) : Desks → Type 0 where
   go_on : (x y : Desks) → IsRun work x → Moves x y → IsRun work y
 
 -- nodes have done the same by these events: each desk's node is one of them without its journal, each packet that a desk has let out was
--- sent, and what it has answered is what the node has told
+-- sent, and what it has answered is what the node has told, each call that was made alone with its place
 pub record AreNodes (w : s.Workload) (x : Desks) (events : List n.Event) : Type 0 where
   pub nodes : (i : ℕ) (t : Told) → slice_get x.desks i ≡ Some t → (m : n.Node) × (slice_get (reached w events).nodes i ≡ Some m) × (small m ≡ t.desk.node)
   pub packets : AreIn x.packets (reached w events).packets
   pub told : (i : ℕ) (t : Told) → slice_get x.desks i ≡ Some t → AreTold t.given (told_in w i (at_start w) events)
+  pub placed : (i : ℕ) (t : Told) → slice_get x.desks i ≡ Some t → ArePlaced 0 0 (replies_of t.given) t.desk.node.round t.desk.made
 
 abbrev pub RunsAreEvents : Type 0
 RunsAreEvents = (work : Workload) (x : Desks) → IsRun work x → (events : List n.Event) × AreNodes (plain_workload work) x events

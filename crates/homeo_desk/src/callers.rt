@@ -1,6 +1,6 @@
 //! What a desk keeps beside its node.
 
-ghost use Rattle.std.specs.Prelude.{◌≡◌, ◌<◌, ◌++◌, ◌∷◌, [], ◌==◌, All, None, cond, drop, length, map, replicate, slice_index_or, take, IfOk, IsTrue, OnOk};
+ghost use Rattle.std.specs.Prelude.{◌≡◌, ◌<◌, ◌++◌, ◌∷◌, [], ℕ, All, None, drop, length, map, replicate, slice_index_or, take, IfOk, IsTrue, OnOk};
 ghost use Rattle.std.specs.VecDeque.{deque_len, deque_capacity};
 ghost use Rattle.std.specs.List.{filter_map, list_any};
 ghost use Rattle.homeo_syntax.specs.SourceView.{plain_workload};
@@ -10,8 +10,10 @@ ghost use Rattle.homeo_history.specs.Legal.{IsCallAt};
 ghost use Rattle.homeo_live.specs.LiveView.{plain_step};
 ghost use Rattle.homeo_desk.specs.DeskView.{calls_of, last_answers, plain_reply};
 ghost use Rattle.homeo_desk.specs.Outputs.{plain_path};
+ghost use Rattle.homeo_desk.specs.Places.{made_in, IsPlaced};
+ghost use Rattle.homeo_desk.specs.declared.places.Places.{Places};
 ghost use Rattle.homeo_desk.specs.Requests.{after_last, among, is_later, is_same};
-ghost use Rattle.homeo_desk.specs.inner.Keeping.{AreLast, KeepsLast, Tells, closed_by};
+ghost use Rattle.homeo_desk.specs.inner.Keeping.{AreLast, KeepsLast, StaysWithin, Tells, closed_by, put};
 ghost use Rattle.homeo_desk.specs.inner.Known.{IsKnown};
 
 use crate::answered::Answered;
@@ -90,7 +92,7 @@ impl Callers {
 
     /// How many calls the site has made alone in a round that isn't over.
     pub(crate) fn made_in(&self, round: u64) -> u64
-        ensures { result ≡ cond (self.now.places.round == round) self.now.places.made 0 }
+        ensures { result ≡ made_in self.now.places.round self.now.places.made round }
     {
         self.places.made_in(round)
     }
@@ -194,8 +196,9 @@ impl Callers {
     ) -> Result<(), Memory>
         requires { take (length (closed_by (plain_step step))) (calls_of self.old.queue.items) ≡ map called (closed_by (plain_step step)) }
         ensures queue { self.new.queue.items ≡ drop (length (closed_by (plain_step step))) self.old.queue.items }
-        ensures tells { OnOk result (Tells (closed_by (plain_step step)) self.old.queue.items self.new.queue.items self.old.answered self.new.answered outputs.old.items outputs.new.items) }
+        ensures tells { OnOk result (Tells (closed_by (plain_step step)) self.old.places self.new.places self.old.queue.items self.new.queue.items self.old.answered self.new.answered outputs.old.items outputs.new.items) }
         ensures last { KeepsLast (closed_by (plain_step step)) self.old.answered self.new.answered }
+        ensures round { StaysWithin (closed_by (plain_step step)) self.old.places self.new.places }
     {
         match step {
             Step::Closed(answers) => self.answer_all(alloc, answers, outputs),
@@ -212,8 +215,9 @@ impl Callers {
     ) -> Result<(), Memory>
         requires { take (length answers.items) (calls_of self.old.queue.items) ≡ map called (map plain_answer answers.items) }
         ensures queue { self.new.queue.items ≡ drop (length answers.items) self.old.queue.items }
-        ensures tells { OnOk result (Tells (map plain_answer answers.items) self.old.queue.items self.new.queue.items self.old.answered self.new.answered outputs.old.items outputs.new.items) }
+        ensures tells { OnOk result (Tells (map plain_answer answers.items) self.old.places self.new.places self.old.queue.items self.new.queue.items self.old.answered self.new.answered outputs.old.items outputs.new.items) }
         ensures last { KeepsLast (map plain_answer answers.items) self.old.answered self.new.answered }
+        ensures round { StaysWithin (map plain_answer answers.items) self.old.places self.new.places }
     {
         let mut done = Ok(());
         for made in answers.into_vec() {
@@ -232,8 +236,9 @@ impl Callers {
     ) -> Result<(), Memory>
         requires { take 1 (calls_of self.old.queue.items) ≡ called (plain_answer made) ∷ [] }
         ensures queue { self.new.queue.items ≡ drop 1 self.old.queue.items }
-        ensures tells { OnOk result (Tells (plain_answer made ∷ []) self.old.queue.items self.new.queue.items self.old.answered self.new.answered outputs.old.items outputs.new.items) }
+        ensures tells { OnOk result (Tells (plain_answer made ∷ []) self.old.places self.new.places self.old.queue.items self.new.queue.items self.old.answered self.new.answered outputs.old.items outputs.new.items) }
         ensures last { KeepsLast (plain_answer made ∷ []) self.old.answered self.new.answered }
+        ensures round { StaysWithin (plain_answer made ∷ []) self.old.places self.new.places }
     {
         let path = self.places.next(made.round, made.path);
         match self.queue.pop_front() {
@@ -254,7 +259,9 @@ impl Callers {
         requires call { request.call ≡ called (plain_answer made) }
         requires path { plain_path path ≡ made.path }
         ensures queue { self.new.queue.items ≡ self.old.queue.items }
-        ensures tells { OnOk result (Tells (plain_answer made ∷ []) (request ∷ []) [] self.old.answered self.new.answered outputs.old.items outputs.new.items) }
+        ensures places { self.new.places ≡ self.old.places }
+        ensures tells { (was : Places) → IsPlaced path (made_in was.round was.made made.round) →
+            OnOk result (Tells (plain_answer made ∷ []) was (put path made.round was) (request ∷ []) [] self.old.answered self.new.answered outputs.old.items outputs.new.items) }
         ensures last { KeepsLast (plain_answer made ∷ []) self.old.answered self.new.answered }
     {
         let answer = Answer {

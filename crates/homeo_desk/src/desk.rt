@@ -48,7 +48,6 @@ enum Delivered {
 }
 
 impl Model for Desk {
-    ghost use Rattle.std.specs.Prelude.{◌==◌, cond};
     ghost use Rattle.std.specs.Coded.{codes};
     ghost use Rattle.homeo_syntax.specs.contracts.workload.Workload as workload;
     ghost use Rattle.homeo_desk.specs.DeskView.{DeskValue};
@@ -60,7 +59,7 @@ impl Model for Desk {
 
     ghost view = { λ d. value_of d.node.work d.node.node d.callers.places d.callers.queue.items d.callers.answered };
 
-    ghost invariant = { λ d. IsKept (value_of d.node.work d.node.node d.callers.places d.callers.queue.items d.callers.answered) };
+    ghost invariant = { λ d. IsKept d.callers.places (value_of d.node.work d.node.node d.callers.places d.callers.queue.items d.callers.answered) };
 }
 
 impl Desk {

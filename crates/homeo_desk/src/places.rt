@@ -1,7 +1,9 @@
 //! Where calls stand in the history.
 
-ghost use Rattle.std.specs.Prelude.{◌≡◌, ◌==◌, cond};
+ghost use Rattle.std.specs.Prelude.{◌≡◌};
 ghost use Rattle.homeo_desk.specs.Outputs.{plain_path};
+ghost use Rattle.homeo_desk.specs.Places.{made_in, IsPlaced};
+ghost use Rattle.homeo_desk.specs.inner.Keeping.{put};
 
 use crate::output::Path;
 use homeo_history::Path as Way;
@@ -24,7 +26,7 @@ impl Places {
 
     /// How many calls the site has made alone in a round that isn't over.
     pub(crate) fn made_in(self, round: u64) -> u64
-        ensures { result ≡ cond (self.round == round) self.made 0 }
+        ensures { result ≡ made_in self.round self.made round }
     {
         if self.round == round {
             return self.made;
@@ -34,7 +36,9 @@ impl Places {
 
     /// Where the next call stands that was made in this round and in this way.
     pub(crate) fn next(&mut self, round: u64, way: Way) -> Path
-        ensures { plain_path result ≡ way }
+        ensures path { plain_path result ≡ way }
+        ensures placed { IsPlaced result (made_in self.old.round self.old.made round) }
+        ensures put { self.new ≡ put result round self.old }
     {
         match way {
             Way::Cleanup(broken) => Path::Closing(broken),

@@ -20,12 +20,13 @@ returns-clause-tells c =
     let answer : Answer = record { number = c.args.request.number; call = c.args.request.call; prints = made.prints; round = made.round; path = c.args.path } in
     let given : Given = record { caller = c.args.request.caller; reply = plain_reply answer } in
     let says : Says given (plain_answer made) = record { call = c.requires.call; round = refl; path = c.requires.path; prints = refl } in
-    record {
+    λ was placed. record {
       given = given ∷ [];
       gives = gives_put [] (given ∷ []) _ _ (o.Answer c.args.request.caller answer) (ap (λ l. l.items) c.in_ok-push.ensures.ok) (in_nothing []) refl;
       told = told given (plain_answer made) [] [] says none;
       queue = refl;
       answered = c.keep.ensures ∙ ap (λ (r : Reply). slice_set c.args.self.now.answered r.call.client (Some r)) c.in_ok-copy.ensures;
+      placed = (placed, refl);
     }
 
 pub returns-in_err-push-clause-last : goal.returns-in_err-push-clause-last

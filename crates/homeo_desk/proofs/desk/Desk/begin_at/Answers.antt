@@ -1,9 +1,10 @@
-use Rattle.std.proofs.Common.{◌≡◌, replicate, None, length, ap, sym, subst, ◌∙◌}
+use Rattle.std.proofs.Common.{arith, ◌≡◌, replicate, None, length, ap, sym, subst, ◌∙◌}
 use Rattle.homeo_lemmas.proofs.Options.{if_some}
 use Rattle.homeo_syntax.specs.SourceView.{plain_workload}
 use Rattle.homeo_syntax.specs.declared.workload.Workload.{Workload}
 use Rattle.homeo_live.specs.LiveView.{LiveValue, plain_node}
 use Rattle.homeo_desk.specs.DeskView.{calls_of}
+use Rattle.homeo_desk.specs.declared.places.Places.{Places}
 use Rattle.homeo_desk.specs.inner.Keeping.{AreLast}
 use Rattle.homeo_desk.proofs.Keeping.{begun_kept}
 use Rattle.homeo_desk.proofs.desk.Desk.begin_at.Goals as goal
@@ -21,3 +22,4 @@ invariant_of-result c =
     (λ none. subst (λ (v : LiveValue). AreLast (plain_workload v.work) v.node.number c.keep.new.self.answered) node
     (c.keep.ensures.last (subst (λ (v : LiveValue). AreLast (plain_workload v.work) v.node.number c.in_ok-callers.callers.answered) (sym node)
     (subst (AreLast (plain_workload work) state.node.site) (sym last) none))))
+    (let round = ap (λ (p : Places). p.round) c.keep.ensures.places ∙ c.in_ok-callers.ensures.round in omega (arith, round))

@@ -55,7 +55,7 @@ invariant_of-self-in_err-tell c =
     subst (λ k. FitsQueue packet k x.queue) c.number.ensures.number (subst (λ q. FitsQueue packet c.number.result q) c.queue.ensures (c.fits_queue.ensures c.if-not-fits_queue.false)) in
     let closes : Closes w (grown x) (received w packet (grown x)) = receives w (grown x) below c.number.ensures.states c.self.invariant.first packet fits in
     let told_is = closes.told_is ∙ sym (ap closed_by came.came_to) in
-    still_kept i.node.work x new i.callers.places i.callers.queue.items i.callers.answered (Came packet) sent step (closed_by (plain_step step)) came closes.keeps told_is c.self.invariant c.receive.new.self.work c.tell.new.self.places c.tell.new.self.queue.items c.tell.new.self.answered c.receive.ensures.work c.number.ensures.calls c.tell.ensures.queue c.tell.ensures.last.keeps
+    still_kept i.node.work x new i.callers.places i.callers.queue.items i.callers.answered (Came packet) sent step (closed_by (plain_step step)) came closes.keeps told_is c.self.invariant c.receive.new.self.work c.tell.new.self.places c.tell.new.self.queue.items c.tell.new.self.answered c.receive.ensures.work c.number.ensures.calls c.tell.ensures.queue c.tell.ensures.last.keeps c.tell.ensures.round
 
 pub invariant_of-self-in_err-stop : goal.invariant_of-self-in_err-stop
 unfolding node_definitions
@@ -74,7 +74,7 @@ invariant_of-self-in_err-stop c =
     subst (λ k. FitsQueue packet k x.queue) c.number.ensures.number (subst (λ q. FitsQueue packet c.number.result q) c.queue.ensures (c.fits_queue.ensures c.if-not-fits_queue.false)) in
     let closes : Closes w (grown x) (received w packet (grown x)) = receives w (grown x) below c.number.ensures.states c.self.invariant.first packet fits in
     let told_is = closes.told_is ∙ sym (ap closed_by came.came_to) in
-    still_kept i.node.work x new i.callers.places i.callers.queue.items i.callers.answered (Came packet) sent step (closed_by (plain_step step)) came closes.keeps told_is c.self.invariant c.receive.new.self.work c.tell.new.self.places c.tell.new.self.queue.items c.tell.new.self.answered c.receive.ensures.work c.number.ensures.calls c.tell.ensures.queue c.tell.ensures.last.keeps
+    still_kept i.node.work x new i.callers.places i.callers.queue.items i.callers.answered (Came packet) sent step (closed_by (plain_step step)) came closes.keeps told_is c.self.invariant c.receive.new.self.work c.tell.new.self.places c.tell.new.self.queue.items c.tell.new.self.answered c.receive.ensures.work c.number.ensures.calls c.tell.ensures.queue c.tell.ensures.last.keeps c.tell.ensures.round
 
 pub invariant_of-self-2 : goal.invariant_of-self-2
 unfolding node_definitions
@@ -93,7 +93,7 @@ invariant_of-self-2 c =
     subst (λ k. FitsQueue packet k x.queue) c.number.ensures.number (subst (λ q. FitsQueue packet c.number.result q) c.queue.ensures (c.fits_queue.ensures c.if-not-fits_queue.false)) in
     let closes : Closes w (grown x) (received w packet (grown x)) = receives w (grown x) below c.number.ensures.states c.self.invariant.first packet fits in
     let told_is = closes.told_is ∙ sym (ap closed_by came.came_to) in
-    still_kept i.node.work x new i.callers.places i.callers.queue.items i.callers.answered (Came packet) sent step (closed_by (plain_step step)) came closes.keeps told_is c.self.invariant c.receive.new.self.work c.tell.new.self.places c.tell.new.self.queue.items c.tell.new.self.answered c.receive.ensures.work c.number.ensures.calls c.tell.ensures.queue c.tell.ensures.last.keeps
+    still_kept i.node.work x new i.callers.places i.callers.queue.items i.callers.answered (Came packet) sent step (closed_by (plain_step step)) came closes.keeps told_is c.self.invariant c.receive.new.self.work c.tell.new.self.places c.tell.new.self.queue.items c.tell.new.self.answered c.receive.ensures.work c.number.ensures.calls c.tell.ensures.queue c.tell.ensures.last.keeps c.tell.ensures.round
 
 pub returns-then-not-fits_queue-clause-delivers : goal.returns-then-not-fits_queue-clause-delivers
 returns-then-not-fits_queue-clause-delivers c = record { move = stays _ _ _ _ _ (search rules) (gives_nothing [] _); chosen = tt }

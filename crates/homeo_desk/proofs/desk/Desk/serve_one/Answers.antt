@@ -56,7 +56,7 @@ invariant_of-self-in_err-answer-in-Kept c =
     let made : plain_answer c.kept-made.result ≡ local_answer x.round x.number entry =
     c.kept-made.ensures ∙ ap (λ r. local_answer r c.number-site.result entry) c.round-round.ensures ∙ ap (λ k. local_answer x.round k entry) c.number-site.ensures.number in
     let told_is : told (grown x) (served w (grown x)).step ≡ plain_answer c.kept-made.result ∷ [] = ap (told (grown x)) (sym came.came_to) ∙ ap (λ a. a ∷ []) (sym made) in
-    still_kept i.node.work x new i.callers.places i.callers.queue.items i.callers.answered Served sent kept (plain_answer c.kept-made.result ∷ []) came keeps told_is c.self.invariant c.serve.new.self.work c.answer.new.self.places c.answer.new.self.queue.items c.answer.new.self.answered c.serve.ensures.work c.number-site.ensures.calls c.answer.ensures.queue c.answer.ensures.last.keeps
+    still_kept i.node.work x new i.callers.places i.callers.queue.items i.callers.answered Served sent kept (plain_answer c.kept-made.result ∷ []) came keeps told_is c.self.invariant c.serve.new.self.work c.answer.new.self.places c.answer.new.self.queue.items c.answer.new.self.answered c.serve.ensures.work c.number-site.ensures.calls c.answer.ensures.queue c.answer.ensures.last.keeps c.answer.ensures.round
 
 pub invariant_of-self-in-Kept : goal.invariant_of-self-in-Kept
 unfolding definitions node_definitions
@@ -75,7 +75,7 @@ invariant_of-self-in-Kept c =
     let made : plain_answer c.kept-made.result ≡ local_answer x.round x.number entry =
     c.kept-made.ensures ∙ ap (λ r. local_answer r c.number-site.result entry) c.round-round.ensures ∙ ap (λ k. local_answer x.round k entry) c.number-site.ensures.number in
     let told_is : told (grown x) (served w (grown x)).step ≡ plain_answer c.kept-made.result ∷ [] = ap (told (grown x)) (sym came.came_to) ∙ ap (λ a. a ∷ []) (sym made) in
-    still_kept i.node.work x new i.callers.places i.callers.queue.items i.callers.answered Served sent kept (plain_answer c.kept-made.result ∷ []) came keeps told_is c.self.invariant c.serve.new.self.work c.answer.new.self.places c.answer.new.self.queue.items c.answer.new.self.answered c.serve.ensures.work c.number-site.ensures.calls c.answer.ensures.queue c.answer.ensures.last.keeps
+    still_kept i.node.work x new i.callers.places i.callers.queue.items i.callers.answered Served sent kept (plain_answer c.kept-made.result ∷ []) came keeps told_is c.self.invariant c.serve.new.self.work c.answer.new.self.places c.answer.new.self.queue.items c.answer.new.self.answered c.serve.ensures.work c.number-site.ensures.calls c.answer.ensures.queue c.answer.ensures.last.keeps c.answer.ensures.round
 
 pub returns-in-Kept-clause-moves : goal.returns-in-Kept-clause-moves
 unfolding definitions node_definitions
@@ -111,7 +111,7 @@ invariant_of-self-in-Wanted c =
     let below : x.number < sites_of w = subst (λ k. k < sites_of w) c.number-site.ensures.number c.number-site.ensures.below in
     let keeps : Keeps w (grown x) (served w (grown x)) = serves w (grown x) below c.number-site.ensures.states c.self.invariant.first in
     let told_is : told (grown x) (served w (grown x)).step ≡ [] = ap (told (grown x)) (sym came.came_to) in
-    still_kept i.node.work x new i.callers.places i.callers.queue.items i.callers.answered Served sent kept [] came keeps told_is c.self.invariant c.serve.new.self.work i.callers.places i.callers.queue.items i.callers.answered c.serve.ensures.work c.number-site.ensures.calls refl (λ v site are all. are)
+    still_kept i.node.work x new i.callers.places i.callers.queue.items i.callers.answered Served sent kept [] came keeps told_is c.self.invariant c.serve.new.self.work i.callers.places i.callers.queue.items i.callers.answered c.serve.ensures.work c.number-site.ensures.calls refl (λ v site are all. are) (λ last le all. le)
 
 pub returns-in-Wanted-clause-moves : goal.returns-in-Wanted-clause-moves
 unfolding definitions node_definitions
@@ -128,7 +128,7 @@ returns-in-Wanted-clause-moves c =
     let keeps : Keeps w (grown x) (served w (grown x)) = serves w (grown x) below c.number-site.ensures.states c.self.invariant.first in
     let told_is : told (grown x) (served w (grown x)).step ≡ [] = ap (told (grown x)) (sym came.came_to) in
     subst (λ d. IsMove [] [] d c.want.new.self c.args.outputs.now.items c.want.new.outputs.items) c.self.view_is
-    (then_free [] [] _ _ _ _ _ _ (moved i.node.work x new i.callers.places i.callers.queue.items i.callers.answered Served sent kept [] came keeps told_is c.self.invariant c.serve.new.self.work i.callers.places i.callers.queue.items i.callers.answered c.serve.ensures.work [] _ _ _ tt (gives_nothing (map plain_packet sent) _) (tells_nothing i.callers.queue.items i.callers.answered _)) c.in_ok-want-in-Wanted.ensures.moves)
+    (then_free [] [] _ _ _ _ _ _ (moved i.node.work x new i.callers.places i.callers.queue.items i.callers.answered Served sent kept [] came keeps told_is c.self.invariant c.serve.new.self.work i.callers.places i.callers.queue.items i.callers.answered c.serve.ensures.work [] _ _ _ tt (gives_nothing (map plain_packet sent) _) (tells_nothing i.callers.places i.callers.queue.items i.callers.answered _)) c.in_ok-want-in-Wanted.ensures.moves)
 
 pub invariant_of-self-in_default : goal.invariant_of-self-in_default
 unfolding definitions node_definitions
@@ -144,7 +144,7 @@ invariant_of-self-in_default c =
     let below : x.number < sites_of w = subst (λ k. k < sites_of w) c.number-site.ensures.number c.number-site.ensures.below in
     let keeps : Keeps w (grown x) (served w (grown x)) = serves w (grown x) below c.number-site.ensures.states c.self.invariant.first in
     let told_is : told (grown x) (served w (grown x)).step ≡ [] = nothing_served w (grown x) c.in_ok-call.field-0 c.in_default.not-Kept came.came_to in
-    still_kept i.node.work x new i.callers.places i.callers.queue.items i.callers.answered Served sent kept [] came keeps told_is c.self.invariant c.serve.new.self.work i.callers.places i.callers.queue.items i.callers.answered c.serve.ensures.work c.number-site.ensures.calls refl (λ v site are all. are)
+    still_kept i.node.work x new i.callers.places i.callers.queue.items i.callers.answered Served sent kept [] came keeps told_is c.self.invariant c.serve.new.self.work i.callers.places i.callers.queue.items i.callers.answered c.serve.ensures.work c.number-site.ensures.calls refl (λ v site are all. are) (λ last le all. le)
 
 pub returns-clause-moves : goal.returns-clause-moves
 unfolding definitions node_definitions
@@ -161,4 +161,4 @@ returns-clause-moves c =
     let keeps : Keeps w (grown x) (served w (grown x)) = serves w (grown x) below c.number-site.ensures.states c.self.invariant.first in
     let told_is : told (grown x) (served w (grown x)).step ≡ [] = nothing_served w (grown x) c.in_ok-call.field-0 c.in_default.not-Kept came.came_to in
     subst (λ d. IsMove [] [] d (value_of c.serve.new.self.work c.serve.new.self.node i.callers.places i.callers.queue.items i.callers.answered) c.args.outputs.now.items c.args.outputs.now.items) c.self.view_is
-    (moved i.node.work x new i.callers.places i.callers.queue.items i.callers.answered Served sent kept [] came keeps told_is c.self.invariant c.serve.new.self.work i.callers.places i.callers.queue.items i.callers.answered c.serve.ensures.work [] _ _ _ tt (gives_nothing (map plain_packet sent) _) (tells_nothing i.callers.queue.items i.callers.answered _))
+    (moved i.node.work x new i.callers.places i.callers.queue.items i.callers.answered Served sent kept [] came keeps told_is c.self.invariant c.serve.new.self.work i.callers.places i.callers.queue.items i.callers.answered c.serve.ensures.work [] _ _ _ tt (gives_nothing (map plain_packet sent) _) (tells_nothing i.callers.places i.callers.queue.items i.callers.answered _))

@@ -1,4 +1,5 @@
-use Rattle.std.proofs.Common.{◌≡◌, ap, subst, sym, cond, ◌∙◌}
+use Rattle.std.proofs.Common.{◌≡◌, ap, subst, sym, ◌∙◌}
+use Rattle.homeo_desk.specs.Places.{made_in}
 use Rattle.std.specs.Prelude.{All, ◌==◌}
 use Rattle.homeo_syntax.specs.SourceView.{plain_workload}
 use Rattle.homeo_history.specs.Legal.{IsCallAt}
@@ -14,7 +15,7 @@ returns-clause-state c =
     let state : DeskState = record { node = c.in_ok-node.node; made = c.made_in-made.result; queue = c.in_ok-queue.queue; answered = c.in_ok-answered.answered } in
     subst (λ (d : DeskValue). desk_of d.work state ≡ d) c.self.view_is
     (state_is i.node.work i.node.node i.callers.places i.callers.queue.items i.callers.answered state c.in_ok-node.ensures
-    (c.made_in-made.ensures ∙ ap (λ r. cond (i.callers.places.round == r) i.callers.places.made 0) c.round.ensures) c.in_ok-queue.ensures c.in_ok-answered.ensures c.self.invariant.last)
+    (c.made_in-made.ensures ∙ ap (made_in i.callers.places.round i.callers.places.made) c.round.ensures) c.in_ok-queue.ensures c.in_ok-answered.ensures c.self.invariant.last)
 
 pub returns-clause-can_begin : goal.returns-clause-can_begin
 returns-clause-can_begin c =
