@@ -1,5 +1,5 @@
 -- The text of a stream, with some bytes more.
-use Rattle.std.proofs.Common.{◌≡◌, ◌∙◌, ◌<◌, ◌≤◌, ℕ, Bool, true, false, List, [], ◌∷◌, ◌++◌, length, refl, sym, ap, subst, arith, append_assoc, append-nil, length-append, inl, inr}
+use Rattle.std.proofs.Common.{◌≡◌, ◌∙◌, ◌<◌, ◌≤◌, ℕ, Bool, true, false, List, [], ◌∷◌, ◌++◌, length, Some, refl, sym, ap, subst, arith, append_assoc, append-nil, length-append, inl, inr}
 use Rattle.homeo_syntax.specs.declared.workload.Refusal.{Refusal}
 use Rattle.homeo_meaning.specs.Key.{definitions}
 use Rattle.homeo_meaning.specs.Verdict.{IsRefused, text_limit}
@@ -8,6 +8,9 @@ use Rattle.homeo_frames.specs.Frames.{IsFrame, IsOpen}
 use Rattle.homeo_frames.proofs.Cutting.{nothing_open}
 use Rattle.homeo_process.specs.Streams.{IsAccepted, HasText, IsSoFar, IsWhole, IsFull, IsStopped, EndRefuses}
 use Rattle.homeo_process.specs.inner.Feeds.{IsInText, IsKept}
+
+pub same_some : (r q : Refusal) → Some r ≡ Some q → r ≡ q
+same_some r q e = cc
 
 pub nothing_kept : IsInText [] []
 nothing_kept = record { is = refl; goes_on = nothing_open; short = omega arith }

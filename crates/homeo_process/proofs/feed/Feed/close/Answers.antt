@@ -1,11 +1,10 @@
 use Rattle.std.proofs.Common.{◌≡◌, ◌∙◌, true, false, is_some, Err, sym, ap, subst, inr}
-use Rattle.std.proofs.lemmas.Option.{same_Some}
 use Rattle.homeo_meaning.specs.Verdict.{IsRefused}
 use Rattle.homeo_meaning.specs.declared.call.Purpose.TheVariants.{Run}
 use Rattle.homeo_process.specs.Streams.{IsAccepted}
 use Rattle.homeo_process.specs.inner.Feeds.{FeedValue, IsAfter}
 use Rattle.homeo_process.specs.contracts.feed.Feed.{the_view}
-use Rattle.homeo_process.proofs.Feeding.{in_text, behind_text, whole_text, end_refuses}
+use Rattle.homeo_process.proofs.Feeding.{same_some, in_text, behind_text, whole_text, end_refuses}
 use Rattle.homeo_process.proofs.feed.Feed.close.Goals as goal
 
 pub returns-then-is_some-clause-whole : goal.returns-then-is_some-clause-whole
@@ -31,7 +30,7 @@ returns-in-Err-Refused-clause-stops c = λ bytes r h is.
     let first : f.begun ≡ false = sym c.is_some.ensures ∙ c.if-is_some.false in
     let told = c.in-Err-Refused.ensures.refused c.in-Err-Refused.refusal (ap Err c.in-Err-Refused.field-0-is) in
     end_refuses bytes f.text r (in_text bytes f.text f.begun first was)
-    (subst (λ t. IsRefused t Run r) text (subst (λ q. IsRefused c.deref.result.now Run q) (same_Some c.in-Err-Refused.refusal r is) told))
+    (subst (λ t. IsRefused t Run r) text (subst (λ q. IsRefused c.deref.result.now Run q) (same_some c.in-Err-Refused.refusal r is) told))
 
 pub returns-in-Err-Refused-clause-stops_first : goal.returns-in-Err-Refused-clause-stops_first
 returns-in-Err-Refused-clause-stops_first c = λ r is.

@@ -1,9 +1,9 @@
 use Rattle.std.proofs.Common.{◌≡◌, ◌∙◌, Err, Some, refl, ap, subst}
-use Rattle.std.proofs.lemmas.Option.{same_Some}
 use Rattle.homeo_meaning.specs.Verdict.{IsRefused}
 use Rattle.homeo_meaning.specs.declared.call.Purpose.TheVariants.{Run}
 use Rattle.homeo_process.specs.Streams.{IsAccepted}
 use Rattle.homeo_process.specs.inner.Feeds.{FeedValue}
+use Rattle.homeo_process.proofs.Feeding.{same_some}
 use Rattle.homeo_process.proofs.feed.Feed.end_text.Goals as goal
 
 pub returns-in-Ok-clause-accepted : goal.returns-in-Ok-clause-accepted
@@ -16,4 +16,4 @@ returns-in-Err-Refused-clause-refused c = λ r is.
     let text : c.deref.result.now ≡ c.args.self.now.text = c.deref.ensures.value ∙ ap (λ (f : FeedValue). f.text) c.self.view_is in
     let told = c.in-Err-Refused.ensures.refused c.in-Err-Refused.refusal (ap Err c.in-Err-Refused.field-0-is) in
     let same : Some c.in-Err-Refused.refusal ≡ Some r = rw c.in-Err-Refused.field-0-is at is in
-    subst (λ t. IsRefused t Run r) text (subst (λ q. IsRefused c.deref.result.now Run q) (same_Some c.in-Err-Refused.refusal r same) told)
+    subst (λ t. IsRefused t Run r) text (subst (λ q. IsRefused c.deref.result.now Run q) (same_some c.in-Err-Refused.refusal r same) told)

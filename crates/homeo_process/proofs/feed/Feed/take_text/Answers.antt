@@ -1,12 +1,11 @@
 use Rattle.std.proofs.Common.{◌≡◌, ◌∙◌, ◌<◌, ◌≤◌, [], ◌∷◌, ◌++◌, false, length, refl, sym, ap, subst, arith}
-use Rattle.std.proofs.lemmas.Option.{same_Some}
 use Rattle.homeo_meaning.specs.Verdict.{IsRefused, text_limit}
 use Rattle.homeo_meaning.specs.declared.call.Purpose.TheVariants.{Run}
 use Rattle.homeo_frames.specs.Frames.{IsFrame, IsOpen}
 use Rattle.homeo_process.specs.Streams.{IsAccepted}
 use Rattle.homeo_process.specs.inner.Feeds.{FeedValue, IsInText}
 use Rattle.homeo_process.specs.contracts.feed.Feed.{the_view}
-use Rattle.homeo_process.proofs.Feeding.{full_stops, frame_stops, text_more, text_ends, kept_in_text, kept_behind}
+use Rattle.homeo_process.proofs.Feeding.{same_some, full_stops, frame_stops, text_more, text_ends, kept_in_text, kept_behind}
 use Rattle.homeo_process.proofs.feed.Feed.take_text.Goals as goal
 
 pub returns-then-len-ge-TEXT_LIMIT-clause-stops : goal.returns-then-len-ge-TEXT_LIMIT-clause-stops
@@ -14,7 +13,7 @@ returns-then-len-ge-TEXT_LIMIT-clause-stops c = λ bytes r h is.
     let f : FeedValue = the_view c.self.inside in
     let was : IsInText bytes f.text = subst (λ (x : FeedValue). IsInText bytes x.text) (sym c.self.view_is) h in
     let full : text_limit ≤ length f.text = omega (arith, c.len.ensures, c.if-len-ge-TEXT_LIMIT.true, c.self.inside.text.ok.0) in
-    full_stops bytes f.text c.args.byte _ r was full refl (same_Some _ r is)
+    full_stops bytes f.text c.args.byte _ r was full refl (same_some _ r is)
 
 pub returns-then-not-ends-clause-goes_on : goal.returns-then-not-ends-clause-goes_on
 returns-then-not-ends-clause-goes_on c = λ bytes h none.
