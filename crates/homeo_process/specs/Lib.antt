@@ -1,3 +1,6 @@
+pub mod Driven
+pub mod Runs
 pub mod Serving
 pub mod Streams
+pub mod Taking
 pub mod inner

@@ -5,6 +5,7 @@ use Rattle.std.specs.Io.KnownBytes.{Consumes, IsAtEnd}
 use Rattle.homeo_io.specs.Faults.{Rose}
 use Rattle.homeo_io.specs.Moved.{GaveAll, TookExactly, TookPrefix}
 use Rattle.homeo_syntax.specs.declared.workload.Refusal.{Refusal}
+use Rattle.homeo_process.specs.Runs.{Gives}
 use Rattle.homeo_process.specs.Streams.{IsSoFar, IsWhole, IsStopped, EndRefuses}
 use Rattle.homeo_process.specs.declared.status.Status.{Status}
 use Rattle.homeo_process.specs.declared.status.Status.TheVariants.{Done, Usage, Refused, Memory, ReadFault, WriteFault}
@@ -45,6 +46,32 @@ Reads Refused left left' = (r : Refusal) × ReadRefused r left left'
 Reads Memory left left' = ReadEarly left left'
 Reads ReadFault left left' = ReadSoFar left left'
 Reads WriteFault left left' = ReadSoFar left left'
+
+-- ---- what was written
+-- the output took what was given by all that was read, by a prefix that lacks at most a piece, or a prefix of what was given
+abbrev pub WroteAll : (left left' taken taken' : Option (List ℕ)) → Type 0
+WroteAll left left' taken taken' = (bytes : List ℕ) × Consumes left left' bytes × (written : List ℕ) × Gives bytes written × TookExactly taken taken' written
+
+pub record WroteEarly (left left' taken taken' : Option (List ℕ)) : Type 0 where
+  pub early : List ℕ
+  pub late : List ℕ
+  pub gave : Consumes left left' (early ++ late)
+  pub few : length late ≤ piece_limit
+  pub written : List ℕ
+  pub gives : Gives early written
+  pub took : TookExactly taken taken' written
+
+abbrev pub WroteSome : (left left' taken taken' : Option (List ℕ)) → Type 0
+WroteSome left left' taken taken' = (bytes : List ℕ) × Consumes left left' bytes × (written : List ℕ) × Gives bytes written × TookPrefix taken taken' written
+
+-- where the run ended so
+abbrev pub Writes : Status → (left left' taken taken' : Option (List ℕ)) → Type 0
+Writes Done left left' taken taken' = WroteAll left left' taken taken'
+Writes Usage left left' taken taken' = ⊥
+Writes Refused left left' taken taken' = TookExactly taken taken' []
+Writes Memory left left' taken taken' = WroteEarly left left' taken taken'
+Writes ReadFault left left' taken taken' = WroteAll left left' taken taken'
+Writes WriteFault left left' taken taken' = WroteSome left left' taken taken'
 
 -- ---- statuses
 abbrev pub number_of : Status → ℕ

@@ -1,5 +1,11 @@
 //! Lines in, lines out.
 
+ghost use Rattle.std.specs.Prelude.{◌≡◌, ◌<◌, ◌≤◌, ℕ, List, length, IfOk, OnOk};
+ghost use Rattle.homeo_syntax.specs.SourceView.{plain_workload};
+ghost use Rattle.homeo_process.specs.Driven.{before_all};
+ghost use Rattle.homeo_process.specs.Taking.{line_limit};
+ghost use Rattle.homeo_process.specs.inner.Shells.{Took};
+
 use crate::serving::serve;
 use crate::voice::{Voice, place_of};
 use homeo_build::compile::compile;
@@ -23,7 +29,9 @@ impl Shell {
     /// # Errors
     ///
     /// `Memory` when out of memory.
-    pub(crate) fn of(alloc: Global, w: Accepted) -> Result<Shell, Memory> {
+    pub(crate) fn of(alloc: Global, w: Accepted) -> Result<Shell, Memory>
+        ensures { IfOk result (λ shell. (shell ≡ before_all shell.work) × (plain_workload shell.work ≡ plain_workload w)) }
+    {
         let compiled = Arc::new(alloc, compile(alloc, w)?)?;
         let catalogue = Catalogue::of(alloc, compiled)?;
         Ok(Shell {
@@ -42,7 +50,10 @@ impl Shell {
         alloc: Global,
         bytes: &[u8],
         out: &mut Vec<u8>,
-    ) -> Result<(), Memory> {
+    ) -> Result<(), Memory>
+        requires { length bytes.now ≤ line_limit }
+        ensures { OnOk result (Took self.old bytes.now self.new out.old.items out.new.items) }
+    {
         let Line { head, message } = read(alloc, self.voice.catalogue(), bytes)?;
         match message {
             Message::Wrong(wrong) => self.voice.fail(alloc, &head, wrong, out),
@@ -59,7 +70,9 @@ impl Shell {
     /// # Errors
     ///
     /// `Memory` when out of memory. Some bytes may have been appended.
-    pub(crate) fn refuse_long(&self, alloc: Global, out: &mut Vec<u8>) -> Result<(), Memory> {
+    pub(crate) fn refuse_long(&self, alloc: Global, out: &mut Vec<u8>) -> Result<(), Memory>
+        ensures { (line : List ℕ) → line_limit < length line → OnOk result (Took self.now line self.now out.old.items out.new.items) }
+    {
         let head = Head {
             from: None,
             number: None,
