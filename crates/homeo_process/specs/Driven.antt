@@ -5,6 +5,7 @@ use Rattle.std.specs.Option.{option_and_then}
 use Rattle.std.specs.Str.{bytes_eq}
 use Rattle.homeo_syntax.specs.SourceView.{plain_workload}
 use Rattle.homeo_syntax.specs.declared.workload.Workload.{Workload}
+use Rattle.homeo_nodes.specs.Nodes as n
 use Rattle.homeo_live.specs.LiveView.{plain_packet, plain_past}
 use Rattle.homeo_desk.specs.DeskView.{DeskValue}
 use Rattle.homeo_desk.specs.declared.output.Output.{Output}
@@ -23,7 +24,12 @@ pub record Names : Type 0 where
   pub ids : List (List ℕ)
   pub own : ℕ
 
--- a workload, and once a line has told them, a node's names and its desk
+-- a workload, and once a line has told them, a node's names
+pub record Voice : Type 0 where
+  pub work : Workload
+  pub names : Option Names
+
+-- and its desk
 pub record Driven : Type 0 where
   pub work : Workload
   pub names : Option Names
@@ -31,6 +37,9 @@ pub record Driven : Type 0 where
 
 abbrev pub before_all : Workload → Driven
 before_all work = record { work = work; names = None; desk = None }
+
+abbrev pub voice_of : Driven → Voice
+voice_of d = record { work = d.work; names = d.names }
 
 abbrev pub id_of : Option Names → ℕ → Option (List ℕ)
 id_of names site = option_and_then (λ n. slice_get n.ids site) names
@@ -51,8 +60,8 @@ abbrev pub sender : Option Names → Option (List ℕ) → Option ℕ
 sender names from = option_and_then (λ n. option_and_then (λ id. place_of id n.ids) from) names
 
 -- ---- what it says
-abbrev pub line_to : Driven → Option (List ℕ) → l.Body → List ℕ
-line_to d to body = line_text (plain_workload d.work) (own_id d.names) to body
+abbrev pub line_to : Voice → Option (List ℕ) → l.Body → List ℕ
+line_to v to body = line_text (plain_workload v.work) (own_id v.names) to body
 
 -- a refusal
 abbrev pub code_of : Why → ℕ
@@ -63,14 +72,17 @@ abbrev pub text_of : Why → List ℕ
 text_of Full = codes "as many requests wait as may"
 text_of Late = codes "a later request of the client was taken"
 
--- a packet goes to one node or to all others; an answer or a refusal goes to its caller
-abbrev pub lines_in : Driven → Output → List ℕ
-lines_in d (o.Packet (Site site) packet) = line_to d (id_of d.names site) (l.Sent (plain_packet packet))
-lines_in d (o.Packet Others packet) = flat_map (λ id. line_to d (Some id) (l.Sent (plain_packet packet))) (other_ids d.names)
-lines_in d (o.Left site past) = line_to d (id_of d.names site) (l.Left (plain_past past))
-lines_in d (o.Answer caller answer) = line_to d (Some caller) (l.CallOk (plain_answer answer))
-lines_in d (o.Again caller answer) = line_to d (Some caller) (l.CallOk (plain_answer answer))
-lines_in d (o.Refusal caller number why) = line_to d (Some caller) (l.Error (Some number) (code_of why) (text_of why))
+abbrev pub packet_to : Voice → n.Packet → List ℕ → List ℕ
+packet_to v packet id = line_to v (Some id) (l.Sent packet)
 
-abbrev pub lines_of : Driven → List Output → List ℕ
-lines_of d outputs = flat_map (lines_in d) outputs
+-- a packet goes to one node or to all others; an answer or a refusal goes to its caller
+abbrev pub lines_in : Voice → Output → List ℕ
+lines_in v (o.Packet (Site site) packet) = line_to v (id_of v.names site) (l.Sent (plain_packet packet))
+lines_in v (o.Packet Others packet) = flat_map (packet_to v (plain_packet packet)) (other_ids v.names)
+lines_in v (o.Left site past) = line_to v (id_of v.names site) (l.Left (plain_past past))
+lines_in v (o.Answer caller answer) = line_to v (Some caller) (l.CallOk (plain_answer answer))
+lines_in v (o.Again caller answer) = line_to v (Some caller) (l.CallOk (plain_answer answer))
+lines_in v (o.Refusal caller number why) = line_to v (Some caller) (l.Error (Some number) (code_of why) (text_of why))
+
+abbrev pub lines_of : Voice → List Output → List ℕ
+lines_of v outputs = flat_map (lines_in v) outputs

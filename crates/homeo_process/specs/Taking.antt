@@ -1,5 +1,5 @@
 -- What a node does with a line (this project's rule).
-use Rattle.std.specs.Prelude.{◌≡◌, ◌⊎◌, ◌<◌, ◌≤◌, ◌&&◌, ℕ, Bool, true, false, List, [], ◌∷◌, ◌++◌, All, length, Option, None, Some, is_some, is_none}
+use Rattle.std.specs.Prelude.{◌≡◌, ◌⊎◌, ◌<◌, ◌≤◌, ◌&&◌, ℕ, Bool, true, false, List, [], ◌∷◌, ◌++◌, All, length, map, Option, None, Some, is_some, is_none}
 use Rattle.homeo_syntax.specs.Source as s
 use Rattle.homeo_syntax.specs.SourceView.{plain_workload}
 use Rattle.homeo_syntax.specs.declared.workload.Workload.{Workload}
@@ -17,7 +17,7 @@ use Rattle.homeo_desk.specs.declared.output.Output.{Output}
 use Rattle.homeo_desk.specs.declared.output.Request.{Request}
 use Rattle.homeo_lines.specs.Lines as l
 use Rattle.homeo_lines.specs.Read.{IsReadAs, IsNoJson, no_line, malformed, unlisted}
-use Rattle.homeo_process.specs.Driven.{Names, Driven, place_of, sender, line_to, lines_of}
+use Rattle.homeo_process.specs.Driven.{Voice, Driven, voice_of, place_of, sender, line_to, lines_of}
 
 -- the most bytes of a line, without its newline
 abbrev pub line_limit : ℕ
@@ -51,20 +51,20 @@ pub record CanBegin (w : s.Workload) (s : l.State) : Type 0 where
 -- ---- complaints
 -- an error of a code is said to whom a line came from; but to a node only where its line has a number, so that two nodes never answer each
 -- other's errors
-abbrev pub is_unasked : Driven → Option (List ℕ) → Option ℕ → Bool
-is_unasked d from number = is_none number && is_some (sender d.names from)
+abbrev pub is_unasked : Voice → Option (List ℕ) → Option ℕ → Bool
+is_unasked v from number = is_none number && is_some (sender v.names from)
 
-abbrev pub Says : Bool → Driven → Option (List ℕ) → Option ℕ → ℕ → List ℕ → Type 0
-Says true d from number code written = written ≡ []
-Says false d from number code written = (text : List ℕ) × (written ≡ line_to d from (l.Error number code text))
+abbrev pub Says : Bool → Voice → Option (List ℕ) → Option ℕ → ℕ → List ℕ → Type 0
+Says true v from number code written = written ≡ []
+Says false v from number code written = (text : List ℕ) × (written ≡ line_to v from (l.Error number code text))
 
-abbrev pub Complains : Driven → Option (List ℕ) → Option ℕ → ℕ → List ℕ → Type 0
-Complains d from number code written = Says (is_unasked d from number) d from number code written
+abbrev pub Complains : Voice → Option (List ℕ) → Option ℕ → ℕ → List ℕ → Type 0
+Complains v from number code written = Says (is_unasked v from number) v from number code written
 
 -- the node stays as it is
 pub record Fails (d : Driven) (from : Option (List ℕ)) (number : Option ℕ) (code : ℕ) (after : Driven) (written : List ℕ) : Type 0 where
   pub same : after ≡ d
-  pub complains : Complains d from number code written
+  pub complains : Complains (voice_of d) from number code written
 
 -- ---- what a node that has begun does with a message
 abbrev pub with_desk : Driven → DeskValue → Driven
@@ -76,7 +76,7 @@ pub record Answers (d : Driven) (desk : DeskValue) (r : Request) (after : Driven
   pub outputs : List Output
   pub replies : Replies (standing desk r) r desk new [] outputs
   pub then : after ≡ with_desk d new
-  pub wrote : written ≡ lines_of d outputs
+  pub wrote : written ≡ lines_of (voice_of d) outputs
 
 -- a call of a client of the site has a number and somebody who asks it
 abbrev pub Asks : Driven → DeskValue → CallId → Option (List ℕ) → Option ℕ → Driven → List ℕ → Type 0
@@ -93,9 +93,9 @@ pub record Moves (d : Driven) (desk : DeskValue) (packets : List n.Packet) (from
   pub outputs : List Output
   pub complaint : List ℕ
   pub move : IsMove [] packets desk new [] outputs
-  pub complains : (complaint ≡ []) ⊎ Complains d from number malformed complaint
+  pub complains : (complaint ≡ []) ⊎ Complains (voice_of d) from number malformed complaint
   pub then : after ≡ with_desk d new
-  pub wrote : written ≡ lines_of d outputs ++ complaint
+  pub wrote : written ≡ lines_of (voice_of d) outputs ++ complaint
 
 abbrev pub Takes : Option ℕ → Driven → DeskValue → List n.Packet → Option (List ℕ) → Option ℕ → Driven → List ℕ → Type 0
 Takes None d desk packets from number after written = Fails d from number malformed after written
@@ -104,15 +104,15 @@ Takes (Some site) d desk packets from number after written = Moves d desk packet
 -- its state, from which it can be begun again
 pub record Shows (d : Driven) (desk : DeskValue) (from : Option (List ℕ)) (number : Option ℕ) (after : Driven) (written : List ℕ) : Type 0 where
   pub state : l.State
-  pub is_desk : desk_at d.work state ≡ desk
-  pub can_begin : CanBegin (plain_workload d.work) state
+  pub is_desk : desk_at desk.work state ≡ desk
+  pub can_begin : CanBegin (plain_workload desk.work) state
   pub same : after ≡ d
-  pub wrote : written ≡ line_to d from (l.SnapshotOk number state)
+  pub wrote : written ≡ line_to (voice_of d) from (l.SnapshotOk number state)
 
 -- its round and how many requests wait
 pub record Tells (d : Driven) (desk : DeskValue) (from : Option (List ℕ)) (number : Option ℕ) (after : Driven) (written : List ℕ) : Type 0 where
   pub same : after ≡ d
-  pub wrote : written ≡ line_to d from (l.StatusOk number desk.node (length desk.queue))
+  pub wrote : written ≡ line_to (voice_of d) from (l.StatusOk number desk.node (length desk.queue))
 
 -- ---- how it begins
 abbrev pub BeginsAt : Workload → ℕ → Option l.State → DeskValue → Type 0
@@ -130,7 +130,7 @@ pub record Begins (d : Driven) (node : List ℕ) (nodes : List (List ℕ)) (stat
   pub names : AreNames (plain_workload d.work) node nodes site
   pub begins : BeginsAt d.work site state desk
   pub then : after ≡ record { work = d.work; names = Some (record { ids = nodes; own = site }); desk = Some desk }
-  pub wrote : written ≡ line_to after from (l.InitOk number)
+  pub wrote : written ≡ line_to (voice_of after) from (l.InitOk number)
 
 -- there is a desk that has the state: none is given, or it is one of the site's, of a node that nodes have led to
 abbrev pub HasDesk : s.Workload → ℕ → Option l.State → Type 0

@@ -3,6 +3,7 @@
 
 mod feed;
 mod lines;
+mod names;
 mod process;
 mod serving;
 mod shell;

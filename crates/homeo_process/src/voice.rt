@@ -1,54 +1,91 @@
 //! The lines that a node gives.
 
+ghost use Rattle.std.specs.Prelude.{◌≡◌, ◌<◌, ◌^◌, ◌++◌, None, Some, length, option_map, OnOk};
+ghost use Rattle.std.specs.List.{flat_map};
+ghost use Rattle.homeo_live.specs.LiveView.{plain_packet};
+ghost use Rattle.homeo_lines.specs.LineView.{plain_body};
+ghost use Rattle.homeo_process.specs.Driven.{id_of, own_id, other_ids, sender, line_to, code_of, text_of, packet_to, lines_in, lines_of};
+ghost use Rattle.homeo_process.specs.Taking.{Complains};
+ghost use Rattle.homeo_process.specs.inner.Voices.{Appends};
+
+use crate::names::Names;
 use homeo_desk::{Output, To, Why};
 use homeo_lines::{Body, Catalogue, FULL, Head, LATE, Wrong, write_line};
 use homeo_live::Packet;
 use homeo_syntax::{List, Memory, Text};
 use std::alloc::Global;
+use std::marker::Model;
 
-/// What is needed for the lines that a node gives: the names of its workload, the ids of all nodes, and which one it is, once it has
-/// been told.
+/// What is needed for the lines that a node gives: the names of its workload, and once it has been told, the ids of all nodes and
+/// which one it is.
 #[derive(Drop)]
 pub(crate) struct Voice {
     catalogue: Catalogue,
-    ids: Vec<Text>,
-    own: Option<u32>,
+    names: Option<Names>,
+}
+
+impl Model for Voice {
+    ghost use Rattle.homeo_process.specs.Driven as driven;
+
+    ghost Value = { driven.Voice };
+
+    ghost view = { λ v. record { work = v.catalogue; names = v.names } };
 }
 
 impl Voice {
     /// Before the node was told which one it is.
-    pub(crate) fn new(alloc: Global, catalogue: Catalogue) -> Voice {
+    pub(crate) fn new(catalogue: Catalogue) -> Voice
+        ensures { result ≡ record { work = catalogue; names = None } }
+    {
         Voice {
             catalogue,
-            ids: Vec::new(alloc),
-            own: None,
+            names: None,
         }
     }
 
     /// The names of the workload.
-    pub(crate) fn catalogue(&self) -> &Catalogue {
+    pub(crate) fn catalogue(&self) -> &Catalogue
+        ensures { result.now ≡ self.now.work }
+    {
         &self.catalogue
     }
 
     /// The node is told the ids of all nodes, and which one it is.
-    pub(crate) fn name(&mut self, ids: Vec<Text>, own: u32) {
-        self.ids = ids;
-        self.own = Some(own);
+    pub(crate) fn name(&mut self, ids: Vec<Text>, own: u32)
+        requires there { own < length ids.items }
+        requires few { length ids.items < 2 ^ 32 }
+        ensures { self.new ≡ record { work = self.old.work; names = Some (record { ids = ids.items; own = own }) } }
+    {
+        self.names = Some(Names::of(ids, own));
     }
 
     /// The id of the node of a site.
-    fn id(&self, site: u32) -> Option<&str> {
-        match self.ids.get(site as usize) {
-            Some(id) => Some(id.as_str()),
+    fn id(&self, site: u32) -> Option<&str>
+        ensures { option_map (λ s. s.now) result ≡ id_of self.now.names site }
+    {
+        match &self.names {
+            Some(names) => names.id(site),
+            None => None,
+        }
+    }
+
+    /// The id of the node.
+    fn own(&self) -> Option<&str>
+        ensures { option_map (λ s. s.now) result ≡ own_id self.now.names }
+    {
+        match &self.names {
+            Some(names) => names.own(),
             None => None,
         }
     }
 
     /// The site of the node that sends a line.
-    pub(crate) fn site_of(&self, head: &Head) -> Option<u32> {
-        match &head.from {
-            Some(from) => place_of(self.ids.as_slice(), from.as_str()),
-            None => None,
+    pub(crate) fn site_of(&self, head: &Head) -> Option<u32>
+        ensures { result ≡ sender self.now.names head.now.from }
+    {
+        match (&self.names, &head.from) {
+            (Some(names), Some(from)) => names.site(from.as_str()),
+            _ => None,
         }
     }
 
@@ -59,12 +96,10 @@ impl Voice {
         to: Option<&str>,
         body: &Body<'_>,
         out: &mut Vec<u8>,
-    ) -> Result<(), Memory> {
-        let from = match self.own {
-            Some(own) => self.id(own),
-            None => None,
-        };
-        write_line(alloc, &self.catalogue, from, to, body, out)
+    ) -> Result<(), Memory>
+        ensures { OnOk result (out.new.items ≡ out.old.items ++ line_to self.now (option_map (λ s. s.now) to.entry) (plain_body body.now)) }
+    {
+        write_line(alloc, &self.catalogue, self.own(), to, body, out)
     }
 
     /// Gives a line to whom a line came from.
@@ -74,7 +109,9 @@ impl Voice {
         head: &Head,
         body: &Body<'_>,
         out: &mut Vec<u8>,
-    ) -> Result<(), Memory> {
+    ) -> Result<(), Memory>
+        ensures { OnOk result (out.new.items ≡ out.old.items ++ line_to self.now head.now.from (plain_body body.now)) }
+    {
         match &head.from {
             Some(from) => self.say(alloc, Some(from.as_str()), body, out),
             None => self.say(alloc, None, body, out),
@@ -89,7 +126,9 @@ impl Voice {
         head: &Head,
         wrong: Wrong,
         out: &mut Vec<u8>,
-    ) -> Result<(), Memory> {
+    ) -> Result<(), Memory>
+        ensures { OnOk result (Appends (Complains self.now head.now.from head.now.number wrong.code) out.old.items out.new.items) }
+    {
         if head.number.is_none() && self.site_of(head).is_some() {
             return Ok(());
         }
@@ -102,14 +141,18 @@ impl Voice {
         alloc: Global,
         outputs: List<Output>,
         out: &mut Vec<u8>,
-    ) -> Result<(), Memory> {
+    ) -> Result<(), Memory>
+        ensures { OnOk result (out.new.items ≡ out.old.items ++ lines_of self.now outputs.items) }
+    {
         for output in outputs.into_vec() {
             self.tell(alloc, output, out)?;
         }
         Ok(())
     }
 
-    fn tell(&self, alloc: Global, output: Output, out: &mut Vec<u8>) -> Result<(), Memory> {
+    fn tell(&self, alloc: Global, output: Output, out: &mut Vec<u8>) -> Result<(), Memory>
+        ensures { OnOk result (out.new.items ≡ out.old.items ++ lines_in self.now output) }
+    {
         match output {
             Output::Packet(To::Site(site), packet) => {
                 self.say(alloc, self.id(site), &Body::Packet(&packet), out)
@@ -127,34 +170,40 @@ impl Voice {
     }
 
     /// Gives a packet to all nodes but its own.
-    fn tell_others(&self, alloc: Global, packet: &Packet, out: &mut Vec<u8>) -> Result<(), Memory> {
-        let mut site = 0;
-        for id in self.ids.as_slice() {
-            if self.own != Some(site) {
-                self.say(alloc, Some(id.as_str()), &Body::Packet(packet), out)?;
-            }
-            site = u32::saturating_add(site, 1);
+    fn tell_others(&self, alloc: Global, packet: &Packet, out: &mut Vec<u8>) -> Result<(), Memory>
+        ensures { OnOk result (out.new.items ≡ out.old.items ++ flat_map (packet_to self.now (plain_packet packet.now)) (other_ids self.now.names)) }
+    {
+        let Some(names) = &self.names else {
+            return Ok(());
+        };
+        self.tell_each(alloc, names.lower(), packet, out)?;
+        self.tell_each(alloc, names.higher(), packet, out)
+    }
+
+    /// Gives a packet to these nodes.
+    fn tell_each(
+        &self,
+        alloc: Global,
+        ids: &[Text],
+        packet: &Packet,
+        out: &mut Vec<u8>,
+    ) -> Result<(), Memory>
+        ensures { OnOk result (out.new.items ≡ out.old.items ++ flat_map (packet_to self.now (plain_packet packet.now)) ids.now) }
+    {
+        for id in ids {
+            self.say(alloc, Some(id.as_str()), &Body::Packet(packet), out)?;
         }
         Ok(())
     }
 }
 
 /// What is wrong with a request that is refused.
-fn wrong_of(why: Why) -> Wrong {
+fn wrong_of(why: Why) -> Wrong
+    ensures code { result.code ≡ code_of why }
+    ensures text { result.text.now ≡ text_of why }
+{
     match why {
         Why::Full => FULL,
         Why::Late => LATE,
     }
-}
-
-/// The place of an id among ids.
-pub(crate) fn place_of(ids: &[Text], id: &str) -> Option<u32> {
-    let mut place = 0;
-    for other in ids {
-        if other.as_str() == id {
-            return Some(place);
-        }
-        place = u32::saturating_add(place, 1);
-    }
-    None
 }
