@@ -1,2 +1,5 @@
 pub mod Feeding
 pub mod Reading
+pub mod Begun
+pub mod Served
+pub mod Taken
