@@ -32,7 +32,7 @@ module _ (d after : Driven) (bytes : List ℕ) (x : l.Line) (short : length byte
   is_taken written does (inl h) =
       let meant : IsReadAs (plain_workload d.work) bytes (line_of (plain_workload d.work) h.0) = record { value = h.0; json = h.1; meant = refl } in
       json short (line_of (plain_workload d.work) h.0) meant (subst (λ y. Does d d.desk y after written) (means _ meant) does)
-  is_taken written does (inr no) = no_json short no (subst (λ y. Does d d.desk y after written) (none no) does)
+  is_taken written does (inr nothing) = no_json short nothing (subst (λ y. Does d d.desk y after written) (none nothing) does)
 
   pub took : (old new : List ℕ) → Appends (Does d d.desk x after) old new → Took d bytes after old new
   took old new a = record { written = a.written; are = a.are; taken = is_taken a.written a.is (json_or_not bytes) }

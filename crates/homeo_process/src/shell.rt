@@ -30,9 +30,13 @@ pub(crate) struct Shell {
 }
 
 impl Model for Shell {
+    ghost use Rattle.std.specs.Coded.{codes};
+    ghost use Rattle.homeo_syntax.specs.contracts.workload.Workload as workload;
     ghost use Rattle.homeo_process.specs.Driven.{Driven};
 
     ghost Value = { Driven };
+
+    ghost coded = { Prim.hlevel (codes, workload.the_row.coded) };
 
     ghost view = { λ s. record { work = s.voice.work; names = s.voice.names; desk = s.desk } };
 }

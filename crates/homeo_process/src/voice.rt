@@ -25,9 +25,13 @@ pub(crate) struct Voice {
 }
 
 impl Model for Voice {
+    ghost use Rattle.std.specs.Coded.{codes};
+    ghost use Rattle.homeo_syntax.specs.contracts.workload.Workload as workload;
     ghost use Rattle.homeo_process.specs.Driven as driven;
 
     ghost Value = { driven.Voice };
+
+    ghost coded = { Prim.hlevel (codes, workload.the_row.coded) };
 
     ghost view = { λ v. record { work = v.catalogue; names = v.names } };
 }
