@@ -1,4 +1,5 @@
 pub mod Feeding
+pub mod Lining
 pub mod Reading
 pub mod Begun
 pub mod Served

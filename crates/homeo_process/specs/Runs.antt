@@ -1,22 +1,24 @@
 -- A node that takes the lines behind a text, one after another (this project's rule).
-use Rattle.std.specs.Prelude.{◌≡◌, ◌⊎◌, ◌≢◌, ◌≤◌, ℕ, List, [], ◌∷◌, ◌++◌, All, length}
+use Rattle.std.specs.Prelude.{◌≡◌, ◌⊎◌, ◌≢◌, ℕ, List, [], ◌∷◌, ◌++◌, All}
 use Rattle.std.specs.List.{flat_map}
 use Rattle.homeo_syntax.specs.SourceView.{plain_workload}
 use Rattle.homeo_syntax.specs.declared.workload.Workload.{Workload}
 use Rattle.homeo_meaning.specs.declared.call.Purpose.TheVariants.{Run}
 use Rattle.homeo_meaning.specs.Verdict.{Accepts}
 use Rattle.homeo_frames.specs.Frames.{IsFrame, IsOpen}
-use Rattle.homeo_print.specs.Names.{newline}
 use Rattle.homeo_process.specs.Driven.{Driven, before_all}
 use Rattle.homeo_process.specs.Taking.{IsTaken}
 
 -- ---- lines
+abbrev pub newline : ℕ
+newline = 10
+
 abbrev pub IsLine : List ℕ → Type 0
-IsLine bytes = All (λ b. b ≢ 10) bytes
+IsLine bytes = All (λ b. b ≢ newline) bytes
 
 -- the bytes are these lines, each with its newline, and the beginning of a line that hasn't ended
 pub record AreLines (bytes : List ℕ) (lines : List (List ℕ)) (rest : List ℕ) : Type 0 where
-  pub are : bytes ≡ flat_map (λ line. line ++ newline) lines ++ rest
+  pub are : bytes ≡ flat_map (λ line. line ++ newline ∷ []) lines ++ rest
   pub each : All IsLine lines
   pub goes_on : IsLine rest
 
