@@ -1,5 +1,5 @@
 -- The lines behind a text, with some bytes more.
-use Rattle.std.proofs.Common.{◌≡◌, ◌≢◌, ◌∙◌, ◌<◌, ◌≤◌, ◌-◌, ℕ, suc, false, List, [], ◌∷◌, ◌++◌, length, take, drop, get_or, None, Some, Result, OnOk, refl, sym, ap, subst, arith, append_assoc, append-nil, eq-eqb, eqb-true}
+use Rattle.std.proofs.Common.{◌≡◌, ◌≢◌, ◌∙◌, ◌<◌, ◌≤◌, ◌-◌, ℕ, suc, List, [], ◌∷◌, ◌++◌, length, take, drop, get_or, None, Some, Result, OnOk, refl, sym, ap, subst, arith, append_assoc, append-nil, eq-eqb, eqb-true}
 use Rattle.std.specs.List.{flat_map}
 use Rattle.std.proofs.lemmas.Grind.{flat_map-append}
 use Rattle.std.proofs.lemmas.List.{take-append-drop, take_all, get_or-take, length-take-le, length-drop}
@@ -11,7 +11,7 @@ use Rattle.homeo_syntax.specs.declared.workload.Workload.{Workload}
 use Rattle.homeo_process.specs.Driven.{Driven, before_all}
 use Rattle.homeo_process.specs.Runs.{newline, IsLine, AreLines, HasRun}
 use Rattle.homeo_process.specs.Runs.HasRun.{begin, more}
-use Rattle.homeo_process.specs.inner.Lines.{LinesValue, Keeps, IsAlong, Gains}
+use Rattle.homeo_process.specs.inner.Lines.{LinesValue, no_lines, Keeps, IsAlong, Gains}
 use Rattle.homeo_process.specs.inner.Shells.{Took}
 
 -- ---- where a line ends
@@ -41,8 +41,8 @@ cut_there xs line behind n (first, here) is rest =
 abbrev ended : List ℕ → List ℕ
 ended line = line ++ newline ∷ []
 
-pub no_lines : AreLines [] [] []
-no_lines = record { are = refl; each = All-nil IsLine; goes_on = All-nil (λ b. b ≢ newline) }
+nothing : AreLines [] [] []
+nothing = record { are = refl; each = All-nil IsLine; goes_on = All-nil (λ b. b ≢ newline) }
 
 goes_on : (bytes rest part : List ℕ) (lines : List (List ℕ)) → AreLines bytes lines rest → IsLine part → AreLines (bytes ++ part) lines (rest ++ part)
 goes_on bytes rest part lines h line = record {
@@ -118,11 +118,11 @@ all_taken r work bytes given piece left old new l after h is same keeps =
     on_ok_weaker r (λ kept. (h.gains.0, h.gains.1, subst (λ b. IsAlong work b (given ++ h.gains.0) after) whole (along kept))) (keeps a.rest a.keeps)
 
 -- ---- before any line
-pub no_run : (work : Workload) (d : Driven) → d ≡ before_all work → IsAlong work [] [] (record { node = d; rest = []; skips = false })
+pub no_run : (work : Workload) (d : Driven) → d ≡ before_all work → IsAlong work [] [] (no_lines d)
 no_run work d first = record {
   lines = [];
   rest = [];
-  are_lines = no_lines;
+  are_lines = nothing;
   run = subst (λ (x : Driven). HasRun work [] x []) (sym first) begin;
   keeps = refl;
 }

@@ -1,3 +1,4 @@
+pub mod Endings
 pub mod Feeds
 pub mod Lines
 pub mod Shells

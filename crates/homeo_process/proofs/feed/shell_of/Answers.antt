@@ -1,6 +1,7 @@
-use Rattle.std.proofs.Common.{◌≡◌, IsErrOf, Err, refl}
+use Rattle.std.proofs.Common.{◌≡◌, IsErrOf, Err, refl, sym, subst}
 use Rattle.homeo_syntax.specs.declared.workload.Refusal.{Refusal}
-use Rattle.homeo_syntax.specs.SourceView.{plain_workload}
+use Rattle.homeo_meaning.specs.Verdict.{Accepts}
+use Rattle.homeo_meaning.specs.declared.call.Purpose.TheVariants.{Run}
 use Rattle.homeo_accept.specs.declared.texts.TextRefusal.TheVariants as TextRefusal
 use Rattle.homeo_process.proofs.Feeding.{too_long}
 use Rattle.homeo_process.proofs.feed.shell_of.Goals as goal
@@ -13,4 +14,7 @@ pub returns-then-text-gt-TEXT_LIMIT-clause-refused : goal.returns-then-text-gt-T
 returns-then-text-gt-TEXT_LIMIT-clause-refused c = λ r is. too_long c.args.text.now _ r c.if-text-gt-TEXT_LIMIT.true refl (refusal_of _ r is)
 
 pub returns-in-Ok-clause-accepted : goal.returns-in-Ok-clause-accepted
-returns-in-Ok-clause-accepted c = (plain_workload c.in_ok-w.w, c.in_ok-w.ensures.accepted)
+returns-in-Ok-clause-accepted c = record {
+  accepted = subst (λ w. Accepts c.args.text.now Run w) (sym c.in-Ok.ensures.1) c.in_ok-w.ensures.accepted;
+  first = c.in-Ok.ensures.0;
+}

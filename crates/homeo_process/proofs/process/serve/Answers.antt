@@ -1,9 +1,10 @@
-use Rattle.std.proofs.Common.{rules, ◌≡◌, ◌∙◌, ◌++◌, ℕ, List, [], take, Some, refl, sym, ap, arith, inl, inr}
-use Rattle.std.proofs.KnownBytes.{Consumes-trans, Consumes-nil, Consumes-kept}
+use Rattle.std.proofs.Common.{rules, ◌≡◌, ◌∙◌, ◌++◌, ℕ, List, [], take, Some, refl, sym, ap, subst, arith, inl, inr}
+use Rattle.std.specs.Io.KnownBytes.{Appends}
+use Rattle.std.proofs.KnownBytes.{Consumes-trans, Consumes-nil, Consumes-kept, Appends-nil, Appends-trans}
 use Rattle.homeo_syntax.specs.declared.workload.Refusal.{Refusal}
 use Rattle.homeo_process.specs.declared.process.Ending.{Ending}
 use Rattle.homeo_process.specs.declared.process.Ending.TheVariants as e
-use Rattle.homeo_process.proofs.Reading.{after_so_far, whole_early, piece_early, end_gave}
+use Rattle.homeo_process.proofs.Reading.{after_so_far, whole_early, piece_early, end_gave, wrote_all, wrote_early, wrote_some, wrote_at_end}
 use Rattle.homeo_process.proofs.process.serve.Goals as goal
 
 same_stop : (r q : Refusal) → ◌≡◌ {A = Ending} (e.Refused r) (e.Refused q) → Some r ≡ Some q
@@ -12,9 +13,11 @@ same_stop r q same = cc
 pub loop-piece-init : goal.loop-piece-init
 loop-piece-init g c = record {
   bytes = [];
+  given = [];
   after = c.new-feed.ensures;
   none = c.new-answers.ensures.items;
   gave = Consumes-nil _;
+  took = Appends-nil _;
   quiet = λ first. refl;
   faults = omega arith;
 }
@@ -22,14 +25,14 @@ loop-piece-init g c = record {
 pub returns-in-Err-clause-read_fault : goal.returns-in-Err-clause-read_fault
 returns-in-Err-clause-read_fault g c = λ is.
     let i = c.loop-piece.invariant in
-    (i.bytes, Consumes-kept _ _ _ _ i.gave c.in-Err.ensures.bytes, after_so_far i.bytes c.loop-piece.feed i.after)
+    (i.bytes, Consumes-kept _ _ _ _ i.gave c.in-Err.ensures.bytes, after_so_far i.bytes i.given c.loop-piece.feed i.after)
 
 pub returns-then-count-eq0-clause-done : goal.returns-then-count-eq0-clause-done
 returns-then-count-eq0-clause-done g c = λ is.
     let i = c.loop-piece.invariant in (
       i.bytes,
       record { gave = end_gave _ _ _ _ _ _ i.gave c.in-Ok.ensures.bytes.0 c.if-count-eq0.true; at_end = c.in-Ok.ensures.bytes.1 c.if-count-eq0.true (search rules) },
-      c.close.ensures.done i.bytes i.after is,
+      c.close.ensures.done i.bytes i.given i.after is,
     )
 
 pub returns-then-count-eq0-clause-refused : goal.returns-then-count-eq0-clause-refused
@@ -37,13 +40,13 @@ returns-then-count-eq0-clause-refused g c = λ r is.
     let i = c.loop-piece.invariant in (
       i.bytes,
       end_gave _ _ _ _ _ _ i.gave c.in-Ok.ensures.bytes.0 c.if-count-eq0.true,
-      inr (c.in-Ok.ensures.bytes.1 c.if-count-eq0.true (search rules), c.close.ensures.refused i.bytes r i.after is),
+      inr (c.in-Ok.ensures.bytes.1 c.if-count-eq0.true (search rules), c.close.ensures.refused i.bytes i.given r i.after is),
     )
 
 pub returns-then-count-eq0-clause-refused_early : goal.returns-then-count-eq0-clause-refused_early
 returns-then-count-eq0-clause-refused_early g c = λ r is.
     let i = c.loop-piece.invariant in
-    (i.bytes, end_gave _ _ _ _ _ _ i.gave c.in-Ok.ensures.bytes.0 c.if-count-eq0.true, whole_early i.bytes _ i.after)
+    (i.bytes, end_gave _ _ _ _ _ _ i.gave c.in-Ok.ensures.bytes.0 c.if-count-eq0.true, whole_early i.bytes i.given _ i.after)
 
 pub returns-then-count-eq0-clause-untouched : goal.returns-then-count-eq0-clause-untouched
 returns-then-count-eq0-clause-untouched g c = λ r is. c.loop-piece.invariant.quiet (c.close.ensures.refused_first r is)
@@ -51,7 +54,7 @@ returns-then-count-eq0-clause-untouched g c = λ r is. c.loop-piece.invariant.qu
 pub returns-then-count-eq0-clause-memory : goal.returns-then-count-eq0-clause-memory
 returns-then-count-eq0-clause-memory g c = λ is.
     let i = c.loop-piece.invariant in
-    (i.bytes, end_gave _ _ _ _ _ _ i.gave c.in-Ok.ensures.bytes.0 c.if-count-eq0.true, whole_early i.bytes _ i.after)
+    (i.bytes, end_gave _ _ _ _ _ _ i.gave c.in-Ok.ensures.bytes.0 c.if-count-eq0.true, whole_early i.bytes i.given _ i.after)
 
 pub returns-then-count-eq0-clause-read_fault : goal.returns-then-count-eq0-clause-read_fault
 returns-then-count-eq0-clause-read_fault g c = λ is. absurd (c.close.ensures.no_fault.0 is)
@@ -67,7 +70,7 @@ returns-in-Err-take-clause-memory g c = λ is.
     let i = c.loop-piece.invariant in (
       i.bytes ++ take c.in-Ok.count c.read.new.buf,
       Consumes-trans _ _ _ _ _ i.gave c.in-Ok.ensures.bytes.0,
-      piece_early i.bytes (take c.in-Ok.count c.read.new.buf) _ i.after (let b = c.in-Ok.ensures.bound in omega (arith, c.read.auto.buf)),
+      piece_early i.bytes i.given (take c.in-Ok.count c.read.new.buf) _ i.after (let b = c.in-Ok.ensures.bound in omega (arith, c.read.auto.buf)),
     )
 
 pub returns-in-Some-clause-refused : goal.returns-in-Some-clause-refused
@@ -75,7 +78,7 @@ returns-in-Some-clause-refused g c = λ r is.
     let i = c.loop-piece.invariant in (
       i.bytes ++ take c.in-Ok.count c.read.new.buf,
       Consumes-trans _ _ _ _ _ i.gave c.in-Ok.ensures.bytes.0,
-      inl (c.in-Ok-take.ensures.stops i.bytes r i.after (c.in-Some.is ∙ same_stop c.in-Some.refusal r is)),
+      inl (c.in-Ok-take.ensures.stops i.bytes i.given r i.after (c.in-Some.is ∙ same_stop c.in-Some.refusal r is)),
     )
 
 pub returns-in-Some-clause-refused_early : goal.returns-in-Some-clause-refused_early
@@ -83,7 +86,7 @@ returns-in-Some-clause-refused_early g c = λ r is.
     let i = c.loop-piece.invariant in (
       i.bytes ++ take c.in-Ok.count c.read.new.buf,
       Consumes-trans _ _ _ _ _ i.gave c.in-Ok.ensures.bytes.0,
-      piece_early i.bytes (take c.in-Ok.count c.read.new.buf) _ i.after (let b = c.in-Ok.ensures.bound in omega (arith, c.read.auto.buf)),
+      piece_early i.bytes i.given (take c.in-Ok.count c.read.new.buf) _ i.after (let b = c.in-Ok.ensures.bound in omega (arith, c.read.auto.buf)),
     )
 
 pub returns-in-Some-clause-untouched : goal.returns-in-Some-clause-untouched
@@ -94,18 +97,21 @@ returns-in-Err-write_all-clause-write_fault g c = λ is.
     let i = c.loop-piece.invariant in (
       i.bytes ++ take c.in-Ok.count c.read.new.buf,
       Consumes-trans _ _ _ _ _ i.gave c.in-Ok.ensures.bytes.0,
-      after_so_far (i.bytes ++ take c.in-Ok.count c.read.new.buf) _ (c.in-Ok-take.ensures.goes_on i.bytes i.after c.in_default.is),
+      after_so_far (i.bytes ++ take c.in-Ok.count c.read.new.buf) _ _ (c.in-Ok-take.ensures.goes_on i.bytes i.given i.after c.in_default.is).2,
     )
 
 pub loop-piece-preserved : goal.loop-piece-preserved
 loop-piece-preserved g c =
     let i = c.loop-piece.invariant in
     let slice : c.as_slice.result.now ≡ c.take.new.answers.items = c.as_slice.ensures.value in
+    let gained = c.in-Ok-take.ensures.goes_on i.bytes i.given i.after c.in_default.is in
     record {
       bytes = i.bytes ++ take c.in-Ok.count c.read.new.buf;
-      after = c.in-Ok-take.ensures.goes_on i.bytes i.after c.in_default.is;
+      given = i.given ++ gained.0;
+      after = gained.2;
       none = c.clear.ensures.items;
       gave = Consumes-trans _ _ _ _ _ i.gave c.in-Ok.ensures.bytes.0;
+      took = Appends-trans _ _ _ _ _ i.took (subst (Appends _ _) (slice ∙ gained.1 ∙ ap (λ l. l ++ gained.0) i.none) c.in_default-write_all.ensures.all);
       quiet = λ first. c.in_default-write_all.ensures.none (slice ∙ c.in-Ok-take.ensures.quiet first ∙ i.none) ∙ i.quiet (c.in-Ok-take.ensures.first first);
       faults = omega (arith, i.faults, c.write_all.ensures.counted);
     }
@@ -113,4 +119,40 @@ loop-piece-preserved g c =
 pub returns-clause-read_fault : goal.returns-clause-read_fault
 returns-clause-read_fault g c = λ is.
     let i = c.loop-piece.invariant in
-    (i.bytes, i.gave, after_so_far i.bytes _ i.after)
+    (i.bytes, i.gave, after_so_far i.bytes i.given _ i.after)
+
+-- ---- what was written
+pub returns-in-Err-clause-wrote : goal.returns-in-Err-clause-wrote
+returns-in-Err-clause-wrote g c =
+    let i = c.loop-piece.invariant in
+    wrote_all _ _ _ _ i.bytes i.given _ i.after (Consumes-kept _ _ _ _ i.gave c.in-Err.ensures.bytes) i.took
+
+pub returns-then-count-eq0-clause-wrote : goal.returns-then-count-eq0-clause-wrote
+returns-then-count-eq0-clause-wrote g c =
+    let i = c.loop-piece.invariant in
+    wrote_at_end c.close.result _ _ _ _ i.bytes i.given _ i.after (end_gave _ _ _ _ _ _ i.gave c.in-Ok.ensures.bytes.0 c.if-count-eq0.true) i.took c.close.ensures.no_fault
+
+pub returns-in-Err-take-clause-wrote : goal.returns-in-Err-take-clause-wrote
+returns-in-Err-take-clause-wrote g c =
+    let i = c.loop-piece.invariant in
+    wrote_early _ _ _ _ i.bytes i.given _ _ i.after (Consumes-trans _ _ _ _ _ i.gave c.in-Ok.ensures.bytes.0)
+    (let b = c.in-Ok.ensures.bound in omega (arith, c.read.auto.buf)) i.took
+
+pub returns-in-Some-clause-wrote : goal.returns-in-Some-clause-wrote
+returns-in-Some-clause-wrote g c =
+    let i = c.loop-piece.invariant in
+    wrote_early _ _ _ _ i.bytes i.given _ _ i.after (Consumes-trans _ _ _ _ _ i.gave c.in-Ok.ensures.bytes.0)
+    (let b = c.in-Ok.ensures.bound in omega (arith, c.read.auto.buf)) i.took
+
+pub returns-in-Err-write_all-clause-wrote : goal.returns-in-Err-write_all-clause-wrote
+returns-in-Err-write_all-clause-wrote g c =
+    let i = c.loop-piece.invariant in
+    let slice : c.as_slice.result.now ≡ c.take.new.answers.items = c.as_slice.ensures.value in
+    let gained = c.in-Ok-take.ensures.goes_on i.bytes i.given i.after c.in_default.is in
+    wrote_some _ _ _ _ _ _ i.given gained.0 _ _ gained.2 (Consumes-trans _ _ _ _ _ i.gave c.in-Ok.ensures.bytes.0) i.took
+    (slice ∙ gained.1 ∙ ap (λ l. l ++ gained.0) i.none) c.in-Err-write_all.ensures.prefix
+
+pub returns-clause-wrote : goal.returns-clause-wrote
+returns-clause-wrote g c =
+    let i = c.loop-piece.invariant in
+    wrote_all _ _ _ _ i.bytes i.given _ i.after i.gave i.took

@@ -1,15 +1,14 @@
-use Rattle.std.proofs.Common.{◌≡◌, ◌∙◌, Err, Some, refl, ap, subst}
+use Rattle.std.proofs.Common.{◌≡◌, ◌∙◌, Err, Some, ap, subst}
 use Rattle.homeo_meaning.specs.Verdict.{IsRefused}
 use Rattle.homeo_meaning.specs.declared.call.Purpose.TheVariants.{Run}
-use Rattle.homeo_process.specs.Streams.{IsAccepted}
-use Rattle.homeo_process.specs.inner.Feeds.{FeedValue}
+use Rattle.homeo_process.specs.inner.Feeds.{FeedValue, IsFirst}
 use Rattle.homeo_process.proofs.Feeding.{same_some}
 use Rattle.homeo_process.proofs.feed.Feed.end_text.Goals as goal
 
 pub returns-in-Ok-clause-accepted : goal.returns-in-Ok-clause-accepted
 returns-in-Ok-clause-accepted c = λ none.
     let text : c.deref.result.now ≡ c.args.self.now.text = c.deref.ensures.value ∙ ap (λ (f : FeedValue). f.text) c.self.view_is in
-    (subst IsAccepted text c.in-Ok.ensures.accepted, refl)
+    (c.in-Ok.shell, subst (λ t. IsFirst t c.in-Ok.shell) text c.in-Ok.ensures.accepted, ap Some c.begin.ensures)
 
 pub returns-in-Err-Refused-clause-refused : goal.returns-in-Err-Refused-clause-refused
 returns-in-Err-Refused-clause-refused c = λ r is.
