@@ -11,7 +11,7 @@ use Rattle.homeo_frames.specs.Frames.{IsFrame, IsOpen}
 use Rattle.homeo_frames.proofs.Cutting.{nothing_open}
 use Rattle.homeo_process.specs.Driven.{Driven}
 use Rattle.homeo_process.specs.Runs.{Gives}
-use Rattle.homeo_process.specs.Streams.{IsAccepted, HasText, IsSoFar, IsWhole, IsFull, IsStopped, EndRefuses}
+use Rattle.homeo_process.specs.Streams.{HasText, IsSoFar, IsWhole, IsStopped, EndRefuses}
 use Rattle.homeo_process.specs.inner.Feeds.{IsFirst, IsInText, IsBehindText, IsKept}
 use Rattle.homeo_process.specs.inner.Lines.{LinesValue, no_lines, IsAlong, Gains}
 use Rattle.homeo_process.proofs.Lining.{no_run}
@@ -137,8 +137,8 @@ gives bytes given text (Some l) h = inr (record {
   run = h.along.run;
 })
 
-pub whole_text : (bytes text : List ℕ) → IsInText bytes text → IsAccepted text → IsWhole bytes
-whole_text bytes text h accepted = inl (h.goes_on, subst IsAccepted h.is accepted)
+pub whole_text : (bytes text : List ℕ) (d : Driven) → IsInText bytes text → IsFirst text d → IsWhole bytes
+whole_text bytes text d h first = inl (h.goes_on, (plain_workload d.work, subst (λ t. Accepts t Run (plain_workload d.work)) h.is first.accepted))
 
 pub end_refuses : (bytes text : List ℕ) (r : Refusal) → IsInText bytes text → IsRefused text Run r → EndRefuses bytes r
 end_refuses bytes text r h refused = record { goes_on = h.goes_on; refused = subst (λ t. IsRefused t Run r) h.is refused }

@@ -1,8 +1,7 @@
-use Rattle.std.proofs.Common.{◌≡◌, ◌∙◌, true, false, is_some, Err, sym, ap, subst, inr}
+use Rattle.std.proofs.Common.{◌≡◌, ◌∙◌, true, false, Err, sym, ap, subst, inr}
 use Rattle.homeo_meaning.specs.Verdict.{IsRefused}
 use Rattle.homeo_meaning.specs.declared.call.Purpose.TheVariants.{Run}
-use Rattle.homeo_process.specs.Streams.{IsAccepted}
-use Rattle.homeo_process.specs.inner.Feeds.{FeedValue, has_begun, IsAfter}
+use Rattle.homeo_process.specs.inner.Feeds.{FeedValue, has_begun, IsFirst, IsAfter}
 use Rattle.homeo_process.specs.contracts.feed.Feed.{the_view}
 use Rattle.homeo_process.proofs.Feeding.{same_some, in_text, behind_text, whole_text, end_refuses}
 use Rattle.homeo_process.proofs.feed.Feed.close.Goals as goal
@@ -20,7 +19,7 @@ returns-in-Ok-clause-whole c = λ bytes given h none.
     let was : IsAfter bytes given f = subst (λ (x : FeedValue). IsAfter bytes given x) (sym c.self.view_is) h in
     let text : c.deref.result.now ≡ f.text = c.deref.ensures.value in
     let first : has_begun f ≡ false = sym c.is_some.ensures ∙ c.if-is_some.false in
-    whole_text bytes f.text (in_text bytes given f.text f.lines first was).0 (subst IsAccepted text c.in-Ok.ensures.accepted)
+    whole_text bytes f.text c.in-Ok.field-0 (in_text bytes given f.text f.lines first was).0 (subst (λ t. IsFirst t c.in-Ok.field-0) text c.in-Ok.ensures.accepted)
 
 pub returns-in-Err-Refused-clause-stops : goal.returns-in-Err-Refused-clause-stops
 returns-in-Err-Refused-clause-stops c = λ bytes given r h is.
