@@ -98,7 +98,7 @@ line_taken work bytes given piece left old new l line behind then after h cut is
         m ++ t.written,
         t.are ∙ ap (λ x. x ++ t.written) h.gains.1 ∙ append_assoc old m t.written,
         subst (λ b. IsAlong work b (given ++ (m ++ t.written)) after) (append_assoc bytes h.taken (ended line))
-        (subst (λ g. IsAlong work ((bytes ++ h.taken) ++ ended line) g after) (append_assoc given m t.written) along),
+            (subst (λ g. IsAlong work ((bytes ++ h.taken) ++ ended line) g after) (append_assoc given m t.written) along),
       );
     }
 

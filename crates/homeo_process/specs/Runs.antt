@@ -27,7 +27,7 @@ pub record AreLines (bytes : List ℕ) (lines : List (List ℕ)) (rest : List �
 pub data HasRun (work : Workload) : List (List ℕ) → Driven → List ℕ → Type 0 where
   begin : HasRun work [] (before_all work) []
   more : (lines : List (List ℕ)) (d : Driven) (written : List ℕ) (line : List ℕ) (after : Driven) (then : List ℕ) →
-    HasRun work lines d written → IsTaken d line after then → HasRun work (lines ++ line ∷ []) after (written ++ then)
+      HasRun work lines d written → IsTaken d line after then → HasRun work (lines ++ line ∷ []) after (written ++ then)
 
 -- ---- a stream
 -- the bytes are a text up to its line `end`, which is accepted, and lines; and by these a node of the text has written this
