@@ -1,3 +1,4 @@
+pub mod AcceptedNames
 pub mod Counted
 pub mod Distinct
 pub mod Firsts
@@ -6,3 +7,4 @@ pub mod Names
 pub mod NoFloats
 pub mod ReadBack
 pub mod Sent
+pub mod StatesBack

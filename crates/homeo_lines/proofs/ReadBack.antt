@@ -40,23 +40,23 @@ use Rattle.homeo_lines.specs.Written.{Field, members_of, object_of, count_data, 
 use Rattle.homeo_lines.proofs.Lists.{list_of-items_of}
 
 -- ---- values whose text reads as another value: their members in order
-record Becomes (n : ℕ) (d e : Data) : Type 0 where
+pub record Becomes (n : ℕ) (d e : Data) : Type 0 where
   pub reads : of_json (outline d) ≡ Some e
   pub numbers : tree.HasNumbers (outline d)
   pub deep : tree.depth (outline d) ≤ n
   pub utf8 : IsUtf8 (compact_text d)
 
-stays : (m n : ℕ) (d : Data) → m ≤ n → Plain m d → Becomes n d d
+pub stays : (m n : ℕ) (d : Data) → m ≤ n → Plain m d → Becomes n d d
 stays m n d l p = record { reads = p.reads; numbers = p.numbers; deep = omega (arith, l, p.deep); utf8 = p.utf8 }
 
-deeper : (m n : ℕ) (d e : Data) → m ≤ n → Becomes m d e → Becomes n d e
+pub deeper : (m n : ℕ) (d e : Data) → m ≤ n → Becomes m d e → Becomes n d e
 deeper m n d e l p = record { reads = p.reads; numbers = p.numbers; deep = omega (arith, l, p.deep); utf8 = p.utf8 }
 
-null_stays : (n : ℕ) → Becomes n null null
+pub null_stays : (n : ℕ) → Becomes n null null
 null_stays n = record { reads = refl; numbers = tt; deep = omega arith; utf8 = IsUtf8-are_ascii _ refl }
 
 -- the text is JSON of the other value
-becomes_json : (n : ℕ) (d e : Data) → n ≤ max_depth → Becomes n d e → IsJsonOf (compact_text d) e
+pub becomes_json : (n : ℕ) (d e : Data) → n ≤ max_depth → Becomes n d e → IsJsonOf (compact_text d) e
 becomes_json n d e l p =
     record {
       utf8 = p.utf8;
@@ -96,7 +96,7 @@ items_become n f g (x ∷ xs) h =
       utf8 = λ later. IsUtf8-append (comma_if later) _ (comma_utf8 later) (IsUtf8-append (compact_text (f x)) _ p.utf8 (k.utf8 true));
     }
 
-list_becomes : {X : Type 0} (n : ℕ) (f g : X → Data) (xs : List X) → Each (λ x. Becomes n (f x) (g x)) xs → Becomes (suc n) (list_data (map f xs)) (list_data (map g xs))
+pub list_becomes : {X : Type 0} (n : ℕ) (f g : X → Data) (xs : List X) → Each (λ x. Becomes n (f x) (g x)) xs → Becomes (suc n) (list_data (map f xs)) (list_data (map g xs))
 list_becomes n f g xs h =
     let k = items_become n f g xs h in
     record {
@@ -107,24 +107,24 @@ list_becomes n f g xs h =
     }
 
 -- ---- objects
-abbrev put_fields : List Field → Members → Members
+abbrev pub put_fields : List Field → Members → Members
 put_fields [] found = found
 put_fields (f ∷ fs) found = put_fields fs (put f.0 f.1 found)
 
 -- the members in order
-abbrev settled : List Field → Data
+abbrev pub settled : List Field → Data
 settled fs = object (put_fields fs no_members)
 
-record FieldsBecome (n : ℕ) (fs gs : List Field) : Type 0 where
+pub record FieldsBecome (n : ℕ) (fs gs : List Field) : Type 0 where
   pub reads : (found : Members) → of_members (members_outline (members_of fs)) found ≡ Some (put_fields gs found)
   pub numbers : tree.MembersHaveNumbers (members_outline (members_of fs))
   pub deep : tree.members_depth (members_outline (members_of fs)) ≤ n
   pub utf8 : (later : Bool) → IsUtf8 (members_text later (members_of fs))
 
-no_fields : (n : ℕ) → FieldsBecome n [] []
+pub no_fields : (n : ℕ) → FieldsBecome n [] []
 no_fields n = record { reads = λ found. refl; numbers = tt; deep = omega arith; utf8 = λ later. IsUtf8-are_ascii (125 ∷ []) refl }
 
-more_fields :
+pub more_fields :
     (n : ℕ) (k : List ℕ) (d e : Data) (fs gs : List Field) → are_ascii k ≡ true → Becomes n d e → FieldsBecome n fs gs →
     FieldsBecome n ((k, d) ∷ fs) ((k, e) ∷ gs)
 more_fields n k d e fs gs u p h =
@@ -139,7 +139,7 @@ more_fields n k d e fs gs u p h =
           (IsUtf8-append (58 ∷ []) _ (IsUtf8-are_ascii (58 ∷ []) refl) (IsUtf8-append (compact_text d) _ p.utf8 (h.utf8 true))));
     }
 
-object_becomes : (n : ℕ) (fs gs : List Field) → FieldsBecome n fs gs → Becomes (suc n) (object_of fs) (settled gs)
+pub object_becomes : (n : ℕ) (fs gs : List Field) → FieldsBecome n fs gs → Becomes (suc n) (object_of fs) (settled gs)
 object_becomes n fs gs h =
     record {
       reads = ap (option_map object) (h.reads no_members);
@@ -152,7 +152,7 @@ object_becomes n fs gs h =
 below_is : (end n : ℕ) → n < end → below end n ≡ Some n
 below_is end n h = ap (λ b. if b then Some n else None) (lt-ltb n end h)
 
-count_stays : (n : ℕ) → n < 2 ^ 63 → Plain 0 (count_data n)
+pub count_stays : (n : ℕ) → n < 2 ^ 63 → Plain 0 (count_data n)
 count_stays n h = plain_whole (pos n) (record { low = grind (arith, ints); high = grind (arith, ints, h) })
 
 value_stays : (n : ℤ) → IsValue n → Plain 0 (whole_data n)
@@ -161,10 +161,10 @@ value_stays n h =
     let high = h.high in
     plain_whole n (record { low = grind (arith, ints, low); high = grind (arith, ints, high) })
 
-number_is : (key : List ℕ) (d : Data) (n : ℕ) → get key d ≡ Some (count_data n) → n < 2 ^ 53 → number_at key d ≡ Some n
+pub number_is : (key : List ℕ) (d : Data) (n : ℕ) → get key d ≡ Some (count_data n) → n < 2 ^ 53 → number_at key d ≡ Some n
 number_is key d n e h = ap (λ o. option_and_then (below (2 ^ 53)) (option_and_then whole o)) e ∙ below_is (2 ^ 53) n h
 
-small_is : (key : List ℕ) (d : Data) (n : ℕ) → get key d ≡ Some (count_data n) → n < 2 ^ 32 → small_at key d ≡ Some n
+pub small_is : (key : List ℕ) (d : Data) (n : ℕ) → get key d ≡ Some (count_data n) → n < 2 ^ 32 → small_at key d ≡ Some n
 small_is key d n e h = ap (option_and_then (below (2 ^ 32))) (number_is key d n e (omega (arith, h))) ∙ below_is (2 ^ 32) n h
 
 integer_is : (n : ℤ) → integer (whole_data n) ≡ Some n
@@ -180,18 +180,18 @@ value_is (pos n) h =
     ap (λ b. option_and_then kept (if b then Some (pos n) else None)) (lt-ltb n (2 ^ 63) (grind (arith, ints, high))) ∙ kept_is (pos n) h
 value_is (negsuc n) h = kept_is (negsuc n) h
 
-values_are : (k : ℕ) (ns : List ℤ) → Each IsValue ns → each_from (λ _. value_of) k (map whole_data ns) ≡ Some ns
+pub values_are : (k : ℕ) (ns : List ℤ) → Each IsValue ns → each_from (λ _. value_of) k (map whole_data ns) ≡ Some ns
 unfolding plan_definitions
 values_are k [] h = refl
 values_are k (n ∷ ns) h =
     ap (option_and_then (λ y. option_map (λ ys. y ∷ ys) (each_from (λ _. value_of) (suc k) (map whole_data ns)))) (value_is n h.0)
     ∙ ap (option_map (λ ys. n ∷ ys)) (values_are (suc k) ns h.1)
 
-list_is : (ds : List Data) → list (list_data ds) ≡ Some ds
+pub list_is : (ds : List Data) → list (list_data ds) ≡ Some ds
 list_is ds = ap Some (list_of-items_of ds)
 
 -- ---- findings and calls
-finding_stays : (b : Broken) → IsSmallFinding b → Plain 1 (finding_data b)
+pub finding_stays : (b : Broken) → IsSmallFinding b → Plain 1 (finding_data b)
 unfolding plan_definitions
 finding_stays b h =
     plain_list 0 (count_data b.clause ∷ whole_data b.sum ∷ whole_data b.bound ∷ [])
@@ -200,7 +200,7 @@ finding_stays b h =
 abbrev found : ℕ → ℤ → ℤ → Option Broken
 found clause sum bound = Some (record { clause = clause; sum = sum; bound = bound })
 
-finding_is : (b : Broken) → IsSmallFinding b → finding_of (finding_data b) ≡ Some b
+pub finding_is : (b : Broken) → IsSmallFinding b → finding_of (finding_data b) ≡ Some b
 finding_is b h =
     ap (option_and_then (λ clause. option_and_then (λ sum. option_and_then (λ bound. found clause sum bound) (integer (whole_data b.bound))) (integer (whole_data b.sum))))
     (below_is (2 ^ 32) b.clause h.clause)
@@ -228,7 +228,7 @@ module _ (w : s.Workload) (names : AreNamed w) where
       ap (option_and_then (λ client. option_and_then (call_at w site client) seq)) (client_is site c h.listed)
       ∙ ap (option_and_then (call_at w site c.client)) e ∙ h.listed
 
-  named_call_is :
+  pub named_call_is :
       (site : ℕ) (c : CallId) (d : Data) → IsSmallCall w site c → get (codes "client") d ≡ Some (string (client_name w c.client)) →
       get (codes "call") d ≡ Some (count_data c.seq) → named_call_of w site d ≡ Some c
   named_call_is site c d h e f =
@@ -246,7 +246,7 @@ module _ (w : s.Workload) (names : AreNamed w) where
       ∙ ap (option_map (λ ys. c ∷ ys)) (calls_are site (suc k) cs h.1)
 
   -- ---- breaches
-  breach_is :
+  pub breach_is :
       (b : Breach) (d : Data) → IsSmallBreach w b → get (codes "round") d ≡ Some (count_data b.round) → get (codes "site") d ≡ Some (count_data b.site) →
       get (codes "client") d ≡ Some (string (client_name w b.call.client)) → get (codes "call") d ≡ Some (count_data b.call.seq) →
       get (codes "finding") d ≡ Some (finding_data b.broken) → breach_of w d ≡ Some b
@@ -263,7 +263,7 @@ module _ (w : s.Workload) (names : AreNamed w) where
       made : ℕ → ℕ → CallId → Broken → Option Breach
       made round site call broken = Some (record { round = round; site = site; call = call; broken = broken })
 
-  breach_stays : (n : ℕ) (b : Breach) (fs gs : List Field) → IsSmallBreach w b → 1 ≤ n → FieldsBecome n fs gs → FieldsBecome n (breach_fields w b ++ fs) (breach_fields w b ++ gs)
+  pub breach_stays : (n : ℕ) (b : Breach) (fs gs : List Field) → IsSmallBreach w b → 1 ≤ n → FieldsBecome n fs gs → FieldsBecome n (breach_fields w b ++ fs) (breach_fields w b ++ gs)
   breach_stays n b fs gs h few rest =
       more_fields n (codes "round") _ _ _ _ refl (stays 0 n _ (omega arith) (count_stays b.round (omega (arith, h.round))))
       (more_fields n (codes "site") _ _ _ _ refl (stays 0 n _ (omega arith) (count_stays b.site (omega (arith, h.site))))
@@ -285,7 +285,7 @@ module _ (w : s.Workload) (names : AreNamed w) where
       (ap (λ n. nat_le n 64) (length-map all (call_data w)) ∙ le-leb (length all) 64 few)
       ∙ calls_are site 0 all h
 
-  database_is :
+  pub database_is :
       (key : List ℕ) (d : Data) (ns : List ℤ) → length ns ≡ length (object_names w) → Each IsValue ns → get key d ≡ Some (wholes_data ns) →
       database_at w key d ≡ Some ns
   database_is key d ns all h e =
@@ -295,7 +295,7 @@ module _ (w : s.Workload) (names : AreNamed w) where
       (eq-eqb (length (map whole_data ns)) (length (object_names w)) (length-map ns whole_data ∙ all))
       ∙ values_are 0 ns h
 
-  said_is :
+  pub said_is :
       (site : ℕ) (x : Said) (d : Data) → IsSmallSaid w site x → get (codes "deltas") d ≡ Some (wholes_data x.deltas) →
       get (codes "calls") d ≡ calls_got x.calls → said_of w site d ≡ Some x
   said_is site x d h e f =
@@ -307,7 +307,7 @@ module _ (w : s.Workload) (names : AreNamed w) where
       made : List ℤ → List CallId → Option Said
       made deltas calls = Some (record { deltas = deltas; calls = calls })
 
-  deltas_stay : (ns : List ℤ) → Each IsValue ns → Becomes 1 (wholes_data ns) (wholes_data ns)
+  pub deltas_stay : (ns : List ℤ) → Each IsValue ns → Becomes 1 (wholes_data ns) (wholes_data ns)
   deltas_stay ns h = list_becomes 0 whole_data whole_data ns (each_map IsValue (λ n. Becomes 0 (whole_data n) (whole_data n)) (λ n v. stays 0 0 (whole_data n) (omega arith) (value_stays n v)) ns h)
 
   calls_stay : (n site : ℕ) (cs : List CallId) → Each (IsSmallCall w site) cs → 2 ≤ n → FieldsBecome n (calls_fields w cs) (calls_fields w cs)
@@ -318,13 +318,13 @@ module _ (w : s.Workload) (names : AreNamed w) where
       (list_becomes 1 (call_data w) (call_data w) (c ∷ cs) (each_map (IsSmallCall w site) (λ x. Becomes 1 (call_data w x) (call_data w x)) (λ x k. stays 1 1 (call_data w x) (omega arith) (call_stays site x k)) (c ∷ cs) h)))
       (no_fields n)
 
-  said_stays : (n site : ℕ) (x : Said) → IsSmallSaid w site x → 2 ≤ n → FieldsBecome n (said_fields w x) (said_fields w x)
+  pub said_stays : (n site : ℕ) (x : Said) → IsSmallSaid w site x → 2 ≤ n → FieldsBecome n (said_fields w x) (said_fields w x)
   said_stays n site x h few = more_fields n (codes "deltas") _ _ _ _ refl (deeper 1 n _ _ (omega (arith, few)) (deltas_stay x.deltas h.values)) (calls_stay n site x.calls h.calls few)
 
-  abbrev settled_said : Said → Data
+  abbrev pub settled_said : Said → Data
   settled_said x = settled (said_fields w x)
 
-  said_got : (deltas : Data) (cs : List CallId) → (get (codes "deltas") (settled ((codes "deltas", deltas) ∷ calls_fields w cs)) ≡ Some deltas) × (get (codes "calls") (settled ((codes "deltas", deltas) ∷ calls_fields w cs)) ≡ calls_got cs)
+  pub said_got : (deltas : Data) (cs : List CallId) → (get (codes "deltas") (settled ((codes "deltas", deltas) ∷ calls_fields w cs)) ≡ Some deltas) × (get (codes "calls") (settled ((codes "deltas", deltas) ∷ calls_fields w cs)) ≡ calls_got cs)
   said_got deltas [] = (refl, refl)
   said_got deltas (c ∷ cs) = (refl, refl)
 
@@ -335,20 +335,20 @@ module _ (w : s.Workload) (names : AreNamed w) where
       ap (option_and_then (λ y. option_map (λ ys. y ∷ ys) (each_from (said_of w) (suc k) (map settled_said xs)))) (said_is k x (settled_said x) h.0 got.0 got.1)
       ∙ ap (option_map (λ ys. x ∷ ys)) (all_are (suc k) xs h.1)
 
-  each_said : (k : ℕ) (xs : List Said) → AllSmall w k xs → Each (λ x. Becomes 3 (said_data w x) (settled_said x)) xs
+  pub each_said : (k : ℕ) (xs : List Said) → AllSmall w k xs → Each (λ x. Becomes 3 (said_data w x) (settled_said x)) xs
   unfolding plan_definitions
   each_said k [] h = tt
   each_said k (x ∷ xs) h = (object_becomes 2 (said_fields w x) (said_fields w x) (said_stays 2 k x h.0 (omega arith)), each_said (suc k) xs h.1)
 
   -- ---- lines
-  name_stays : (name : Option (List ℕ)) → IsText name → Becomes 0 (maybe_data string name) (maybe_data string name)
+  pub name_stays : (name : Option (List ℕ)) → IsText name → Becomes 0 (maybe_data string name) (maybe_data string name)
   name_stays None h = null_stays 0
   name_stays (Some name) h = stays 0 0 (string name) (omega arith) (plain_string name h)
 
-  abbrev line_with : Option (List ℕ) → Option (List ℕ) → Data → Data
+  abbrev pub line_with : Option (List ℕ) → Option (List ℕ) → Data → Data
   line_with from to body = settled ((codes "src", maybe_data string from) ∷ (codes "dest", maybe_data string to) ∷ (codes "body", body) ∷ [])
 
-  line_becomes :
+  pub line_becomes :
       (n : ℕ) (from to : Option (List ℕ)) (b : l.Body) (body : Data) → IsText from → IsText to → n ≤ 100 → Becomes n (body_data w b) body →
       IsJsonOf (line_json w from to b) (line_with from to body)
   line_becomes n from to b body f t few h =
@@ -427,11 +427,15 @@ module _ (w : s.Workload) (names : AreNamed w) where
   abbrev past_body : Past → Data
   past_body p = settled ((codes "type", string (codes "left")) ∷ (breach_fields w p.breach ++ (codes "states", list_data (map settled_said p.states)) ∷ []))
 
-  past_is : (p : Past) → IsSmallPast w p → past_of w (past_body p) ≡ Some p
-  past_is p h =
-      let d = past_body p in
+  pub past_is :
+      (p : Past) (d : Data) → IsSmallPast w p → get (codes "round") d ≡ Some (count_data p.breach.round) → get (codes "site") d ≡ Some (count_data p.breach.site) →
+      get (codes "client") d ≡ Some (string (client_name w p.breach.call.client)) → get (codes "call") d ≡ Some (count_data p.breach.call.seq) →
+      get (codes "finding") d ≡ Some (finding_data p.breach.broken) → get (codes "states") d ≡ Some (list_data (map settled_said p.states)) →
+      past_of w d ≡ Some p
+  past_is p d h e1 e2 e3 e4 e5 e6 =
       let xs = p.states in
-      ap (option_and_then (λ b. option_and_then (λ ys. made b ys) (option_and_then (all_said w) (list_at (codes "states") d)))) (breach_is p.breach d h.breach refl refl refl refl refl)
+      ap (option_and_then (λ b. option_and_then (λ ys. made b ys) (option_and_then (all_said w) (list_at (codes "states") d)))) (breach_is p.breach d h.breach e1 e2 e3 e4 e5)
+      ∙ ap (λ o. option_and_then (λ ys. made p.breach ys) (option_and_then (all_said w) (option_and_then list o))) e6
       ∙ ap (λ o. option_and_then (λ ys. made p.breach ys) (option_and_then (all_said w) o)) (list_is (map settled_said xs))
       ∙ ap (λ b. option_and_then (λ ys. made p.breach ys) (if b then each_from (said_of w) 0 (map settled_said xs) else None))
       (eq-eqb (length (map settled_said xs)) (sites_of w) (length-map xs settled_said ∙ h.sites))
@@ -440,12 +444,16 @@ module _ (w : s.Workload) (names : AreNamed w) where
       made : Breach → List Said → Option Past
       made b ys = Some (record { breach = b; states = ys })
 
+  pub past_stays :
+      (p : Past) → IsSmallPast w p →
+      FieldsBecome 4 (past_fields w p) (breach_fields w p.breach ++ (codes "states", list_data (map settled_said p.states)) ∷ [])
+  past_stays p h =
+      breach_stays 4 p.breach _ _ h.breach (omega arith)
+      (more_fields 4 (codes "states") _ _ _ _ refl (list_becomes 3 (said_data w) settled_said p.states (each_said 0 p.states h.states)) (no_fields 4))
+
   past_body_becomes : (p : Past) → IsSmallPast w p → Becomes 5 (body_data w (l.Left p)) (past_body p)
   past_body_becomes p h =
-      object_becomes 4 _ _
-      (more_fields 4 (codes "type") _ _ _ _ refl (stays 0 4 _ (omega arith) (plain_string (codes "left") (IsUtf8-are_ascii _ refl)))
-      (breach_stays 4 p.breach _ _ h.breach (omega arith)
-      (more_fields 4 (codes "states") _ _ _ _ refl (list_becomes 3 (said_data w) settled_said p.states (each_said 0 p.states h.states)) (no_fields 4))))
+      object_becomes 4 _ _ (more_fields 4 (codes "type") _ _ _ _ refl (stays 0 4 _ (omega arith) (plain_string (codes "left") (IsUtf8-are_ascii _ refl))) (past_stays p h))
 
   -- ---- lines of packets
   module _ (from to : Option (List ℕ)) (f : IsText from) (t : IsText to) where
@@ -481,5 +489,5 @@ module _ (w : s.Workload) (names : AreNamed w) where
         record {
           value = line_with from to body;
           json = line_becomes 5 from to (l.Left p) body f t (omega arith) (past_body_becomes p h);
-          meant = line_means from to body (l.HasLeft p) refl (ap (or_malformed l.HasLeft) (past_is p h));
+          meant = line_means from to body (l.HasLeft p) refl (ap (or_malformed l.HasLeft) (past_is p body h refl refl refl refl refl refl));
         }

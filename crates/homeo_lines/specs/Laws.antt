@@ -1,17 +1,28 @@
--- What is written of packets is read back as them.
-use Rattle.std.specs.Prelude.{◌≡◌, ℕ, suc, ◌<◌, ◌≤◌, ◌^◌, List, [], ◌∷◌, length, ℤ, pos, neg_ℤ, int_le, true, Option, Some, None, slice_get, IsUtf8}
+-- What is written of packets and states is read back as them.
+use Rattle.std.specs.Prelude.{◌≡◌, ℕ, suc, ◌<◌, ◌≤◌, ◌^◌, List, [], ◌∷◌, map, length, codes, ℤ, pos, neg_ℤ, int_le, true, Option, Some, None, IfSome, slice_get, IsUtf8}
+use Rattle.serde_json.specs.Data.{Data}
+use Rattle.serde_json.specs.Find.{get}
 use Rattle.homeo_syntax.specs.Source as s
 use Rattle.homeo_meaning.specs.declared.call.CallId.{CallId}
+use Rattle.homeo_meaning.specs.Acceptance.{IsAccepted}
 use Rattle.homeo_plan.specs.declared.treaty.Broken.{Broken}
 use Rattle.homeo_plan.specs.Each.{Each}
 use Rattle.homeo_plan.specs.Planned.{sites_of}
+use Rattle.homeo_history.specs.Legal.{IsCallAt}
 use Rattle.homeo_nodes.specs.declared.breach.Breach.{Breach}
+use Rattle.homeo_nodes.specs.declared.breach.Mode.{Mode}
+use Rattle.homeo_nodes.specs.declared.breach.Mode.TheVariants.{Running, Waiting, Stopped}
 use Rattle.homeo_nodes.specs.Nodes.{Said, Past, Packet, Want, Stop, State}
+use Rattle.homeo_nodes.specs.Small.{Small}
+use Rattle.homeo_desk.specs.declared.output.Path.{Path}
+use Rattle.homeo_desk.specs.declared.output.Path.TheVariants.{Local, Closing}
+use Rattle.homeo_desk.specs.declared.output.Request.{Request}
 use Rattle.homeo_print.specs.Names.{object_names}
 use Rattle.homeo_certificate.specs.Shape.{IsWord}
+use Rattle.homeo_certificate.specs.Text.{IsJsonOf}
 use Rattle.homeo_lines.specs.Lines as l
 use Rattle.homeo_lines.specs.Named.{client_name, client_called, call_at}
-use Rattle.homeo_lines.specs.Read.{IsReadAs}
+use Rattle.homeo_lines.specs.Read.{maybe_state, IsReadAs}
 use Rattle.homeo_lines.specs.Written.{line_json}
 
 -- each client is the first of its name, which is a text
@@ -68,7 +79,65 @@ pub record IsSmallPast (w : s.Workload) (p : Past) : Type 0 where
   pub sites : length p.states ≡ sites_of w
   pub states : AllSmall w 0 p.states
 
--- ---- the laws
+-- ---- and which states
+pub record IsSmallRequest (w : s.Workload) (site : ℕ) (r : Request) : Type 0 where
+  pub caller : IsUtf8 r.caller
+  pub number : r.number < 2 ^ 53
+  pub call : IsSmallCall w site r.call
+
+abbrev pub IsSmallPath : Path → Type 0
+IsSmallPath (Local place) = place < 2 ^ 53
+IsSmallPath (Closing broken) = IsSmallFinding broken
+
+pub record IsSmallAnswer (w : s.Workload) (site : ℕ) (a : l.Answer) : Type 0 where
+  pub number : a.number < 2 ^ 53
+  pub call : IsSmallCall w site a.call
+  pub prints : Each IsValue a.prints
+  pub round : a.round < 2 ^ 53
+  pub path : IsSmallPath a.path
+
+-- a value of each object
+pub record AreValues (w : s.Workload) (ns : List ℤ) : Type 0 where
+  pub all : length ns ≡ length (object_names w)
+  pub values : Each IsValue ns
+
+abbrev pub IsSmallMode : s.Workload → Mode → Type 0
+IsSmallMode w Running = Unit {0}
+IsSmallMode w (Waiting b) = IsSmallBreach w b
+IsSmallMode w (Stopped b) = IsSmallBreach w b
+
+abbrev pub AllKept : s.Workload → ℕ → List (Option Said) → Type 0
+AllKept w k [] = Unit {0}
+AllKept w k (x ∷ xs) = IfSome x (IsSmallSaid w k) × AllKept w (suc k) xs
+
+pub record IsSmallNode (w : s.Workload) (x : Small) : Type 0 where
+  pub number : x.number < 2 ^ 32
+  pub round : x.round < 2 ^ 53
+  pub base : AreValues w x.base
+  pub deltas : AreValues w x.deltas
+  pub mode : IsSmallMode w x.mode
+  pub decided : IfSome x.decided (IsSmallBreach w)
+  pub sites : length x.states ≡ sites_of w
+  pub states : AllKept w 0 x.states
+  pub past : IfSome x.past (IsSmallPast w)
+
+-- the calls that wait are those of its requests
+pub record IsSmallDesk (w : s.Workload) (x : l.State) : Type 0 where
+  pub node : IsSmallNode w x.node
+  pub made : x.made < 2 ^ 53
+  pub paired : map (λ r. r.call) x.queue ≡ x.node.queue
+  pub queue : Each (IsSmallRequest w x.node.number) x.queue
+  pub answered : Each (IsSmallAnswer w x.node.number) x.answered
+
+-- ---- in accepted texts
+abbrev pub AcceptedAreNamed : Type 0
+AcceptedAreNamed = (w : s.Workload) → IsAccepted w → AreNamed w
+
+-- each call of a client of a site is such a one
+abbrev pub CallsAreSmall : Type 0
+CallsAreSmall = (w : s.Workload) (site : ℕ) (call : CallId) → IsAccepted w → IsCallAt w site call → IsSmallCall w site call
+
+-- ---- what is read back
 abbrev pub IsText : Option (List ℕ) → Type 0
 IsText None = Unit {0}
 IsText (Some name) = IsUtf8 name
@@ -83,3 +152,17 @@ abbrev pub PastsReadBack : Type 0
 PastsReadBack =
     (w : s.Workload) → AreNamed w → (from to : Option (List ℕ)) → IsText from → IsText to → (p : Past) → IsSmallPast w p →
     IsReadAs w (line_json w from to (l.Left p)) (record { from = from; number = None; message = l.HasLeft p })
+
+-- the line shows this state: whatever line has the member `state` of its body in its own body, means it there
+pub record IsShown (w : s.Workload) (line : List ℕ) (x : l.State) : Type 0 where
+  pub value : Data
+  pub json : IsJsonOf line value
+  pub body : Data
+  pub in_line : get (codes "body") value ≡ Some body
+  pub means : maybe_state w (get (codes "state") body) ≡ Some (Some x)
+
+-- a snapshot shows the state that it was written of
+abbrev pub StatesReadBack : Type 0
+StatesReadBack =
+    (w : s.Workload) → AreNamed w → (from to : Option (List ℕ)) → IsText from → IsText to → (number : Option ℕ) →
+    IfSome number (λ n. n < 2 ^ 53) → (x : l.State) → IsSmallDesk w x → IsShown w (line_json w from to (l.SnapshotOk number x)) x

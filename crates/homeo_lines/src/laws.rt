@@ -1,6 +1,6 @@
 //! What is true of all lines.
 
-ghost use Rattle.homeo_lines.specs.Laws.{PacketsReadBack, PastsReadBack};
+ghost use Rattle.homeo_lines.specs.Laws.{AcceptedAreNamed, CallsAreSmall, PacketsReadBack, PastsReadBack, StatesReadBack};
 
 /// A packet that is written is read back as that packet.
 pub fn packets_read_back()
@@ -10,4 +10,19 @@ pub fn packets_read_back()
 /// How a round was closed that is written is read back as it was closed.
 pub fn pasts_read_back()
     ensures { PastsReadBack }
+{}
+
+/// The state that a snapshot shows is read back as that state, where it is put into an `init`.
+pub fn states_read_back()
+    ensures { StatesReadBack }
+{}
+
+/// In an accepted text each client is the first of its name, which is a text.
+pub fn clients_are_named()
+    ensures { AcceptedAreNamed }
+{}
+
+/// In an accepted text each call that a client of a site has is found by its client's name and its number, which all JSON readers have.
+pub fn calls_are_small()
+    ensures { CallsAreSmall }
 {}
