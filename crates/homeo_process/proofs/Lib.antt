@@ -1,3 +1,4 @@
+pub mod Clustering
 pub mod Feeding
 pub mod Lining
 pub mod Reading

@@ -1,4 +1,6 @@
+pub mod Cluster
 pub mod Driven
+pub mod Laws
 pub mod Runs
 pub mod Serving
 pub mod Streams
