@@ -17,7 +17,7 @@ use Rattle.homeo_nodes.specs.Brief.{Brief, briefly_by, briefly, briefly_all, bri
 use Rattle.homeo_nodes.specs.Making.{Called}
 use Rattle.homeo_nodes.specs.Nodes.{Said, Journal, carried, next_of, newest, own_answer, answers_then, closed}
 use Rattle.homeo_nodes.proofs.Brief.{brief_closes}
-use Rattle.homeo_nodes.proofs.Places.{same_or_not, test_true, test_false, cond_true, cond_false}
+use Rattle.std.proofs.lemmas.Bool.{cases_eq, eq-eqb, ne_eqb, cond-true, cond-false}
 use Rattle.homeo_desk.specs.declared.output.Path.{Path}
 use Rattle.homeo_desk.specs.declared.output.Path.TheVariants as path
 use Rattle.homeo_desk.specs.declared.places.Places.{Places}
@@ -28,19 +28,19 @@ use Rattle.homeo_desk.specs.inner.Keeping.{ArePut, put}
 
 -- ---- counts
 here : (round made : ℕ) → made_in round made round ≡ made
-here round made = cond_true (eqb round round) made 0 (test_true round round refl)
+here round made = cond-true (eqb round round) made 0 (eq-eqb round round refl)
 
 -- by way of a round between
 in_later : (round made mid now : ℕ) → round ≤ mid → mid ≤ now → made_in mid (made_in round made mid) now ≡ made_in round made now
-in_later round made mid now le more = ⊎_elim same other (same_or_not mid now)
+in_later round made mid now le more = ⊎_elim same other (cases_eq mid now)
   where
     same : mid ≡ now → made_in mid (made_in round made mid) now ≡ made_in round made now
-    same e = cond_true (eqb mid now) (made_in round made mid) 0 (test_true mid now e) ∙ ap (made_in round made) e
+    same e = cond-true (eqb mid now) (made_in round made mid) 0 (eq-eqb mid now e) ∙ ap (made_in round made) e
 
     other : (mid ≡ now → ⊥) → made_in mid (made_in round made mid) now ≡ made_in round made now
     other differ =
-        cond_false (eqb mid now) (made_in round made mid) 0 (test_false mid now differ)
-        ∙ sym (cond_false (eqb round now) made 0 (test_false round now (λ e. differ (omega arith))))
+        cond-false (eqb mid now) (made_in round made mid) 0 (ne_eqb mid now differ)
+        ∙ sym (cond-false (eqb round now) made 0 (ne_eqb round now (λ e. differ (omega arith))))
 
 -- ---- replies, put together
 pub placed_nothing : (round made : ℕ) → ArePlaced round made [] round made

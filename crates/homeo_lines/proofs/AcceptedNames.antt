@@ -30,13 +30,13 @@ use Rattle.homeo_meaning.proofs.FaultParts.{parts, limit_parts}
 use Rattle.homeo_meaning.proofs.SoundRelations.{globals-apart}
 use Rattle.homeo_plan.proofs.PlannedCalls.{known}
 use Rattle.homeo_history.specs.Legal.{IsCallAt}
-use Rattle.homeo_history.proofs.Lists.{get_lt}
+use Rattle.std.proofs.lemmas.Option.{slice_get_within}
 use Rattle.homeo_print.specs.Names.{name_text}
 use Rattle.homeo_core.proofs.FewClients.{few_from}
 use Rattle.homeo_report.proofs.CallsTold.{HasDistinctClients}
 use Rattle.homeo_report.proofs.Names.{distinct_clients}
-use Rattle.homeo_report.proofs.Splits.{and_first, and_second, and_both}
-use Rattle.homeo_lines.specs.Laws.{AreNamed, IsSmallCall}
+use Rattle.homeo_lemmas.proofs.Bools.{both, and_first, and_second}
+use Rattle.homeo_lines.specs.SmallNumbers.{AreNamed, IsSmallCall}
 use Rattle.homeo_lines.specs.Named.{first_from, client_name, client_called, call_in, call_at}
 
 -- ---- names are texts
@@ -46,7 +46,7 @@ word_is_ascii b h = grind (arith, nat_tests)
 words_are_ascii : (bytes : List ℕ) → list_all is_word bytes ≡ true → are_ascii bytes ≡ true
 words_are_ascii [] h = refl
 words_are_ascii (b ∷ bytes) h =
-    and_both (nat_lt b 128) (are_ascii bytes) (word_is_ascii b (and_first (is_word b) (list_all is_word bytes) h))
+    both (word_is_ascii b (and_first (is_word b) (list_all is_word bytes) h))
     (words_are_ascii bytes (and_second (is_word b) (list_all is_word bytes) h))
 
 names_are_ascii : (v : Version) (names : List (List ℕ)) → formed.Each (IsName v) names → (i : ℕ) → are_ascii (unwrap_or (slice_get names i) []) ≡ true
@@ -114,7 +114,7 @@ natural (negsuc m) n h e = absurd (omega (arith, ints, h))
 
 numbered_in : (calls : List s.Call) (seq : ℕ) (call : s.Call) → numbered seq calls ≡ Some call → (0 < seq) × (seq ≤ length calls)
 numbered_in calls zero call e = absurd (cc)
-numbered_in calls (suc k) call e = (omega arith, let lt = get_lt calls k call e in omega (arith, lt))
+numbered_in calls (suc k) call e = (omega arith, let lt = slice_get_within calls k call e in omega (arith, lt))
 
 sited_length : (c : s.Client) → length (sited_calls_of c) ≡ length c.calls
 unfolding meaning_definitions
@@ -147,9 +147,9 @@ call_small w site call accepted at =
       listed =
           ap (option_and_then (call_in site call.client call.seq)) k.found
           ∙ ap (λ b. if b then Some call else None)
-          (and_both (int_eq c.site.value (pos site)) (nat_lt 0 call.seq && nat_le call.seq (length c.calls))
+          (both
           (natural c.site.value site (not_negative w.clients call.client c accepted.well_formed.sites k.found) home)
-          (and_both (nat_lt 0 call.seq) (nat_le call.seq (length c.calls)) (lt-ltb 0 call.seq lt) (le-leb call.seq (length c.calls) le)));
+          (both (lt-ltb 0 call.seq lt) (le-leb call.seq (length c.calls) le)));
       small = omega (arith, le, long, few);
     }
   where

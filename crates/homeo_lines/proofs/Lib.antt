@@ -7,4 +7,5 @@ pub mod Names
 pub mod NoFloats
 pub mod ReadBack
 pub mod Sent
+pub mod SmallPackets
 pub mod StatesBack

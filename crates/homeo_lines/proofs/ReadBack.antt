@@ -31,7 +31,8 @@ use Rattle.homeo_certificate.specs.Json.{whole_data, list_data, wholes_data}
 use Rattle.homeo_certificate.specs.Shape.{IsWord}
 use Rattle.homeo_certificate.specs.Text.{IsJsonOf}
 use Rattle.homeo_certificate.proofs.TextReads.{Plain, plain_list, plain_whole, plain_string}
-use Rattle.homeo_lines.specs.Laws.{AreNamed, IsSmallCall, IsSmallFinding, IsSmallBreach, IsValue, IsSmallSaid, IsSmallState, IsSmall, AllSmall, IsSmallPast, IsText}
+use Rattle.homeo_lines.specs.Laws.{IsText}
+use Rattle.homeo_lines.specs.SmallNumbers.{AreNamed, IsSmallCall, IsSmallFinding, IsSmallBreach, IsValue, IsSmallSaid, IsSmallState, IsSmall, AllSmall, IsSmallPast}
 use Rattle.homeo_lines.specs.Lines as l
 use Rattle.homeo_lines.specs.Members.{list, list_of, whole, integer, below, kept, value_of, text_at, list_at, number_at, small_at, each_from}
 use Rattle.homeo_lines.specs.Named.{client_name, client_called, call_in, call_at}

@@ -22,14 +22,16 @@ use Rattle.homeo_desk.specs.declared.output.Path.TheVariants.{Local, Closing}
 use Rattle.homeo_desk.specs.declared.output.Request.{Request}
 use Rattle.homeo_certificate.specs.Json.{whole_data, list_data, wholes_data}
 use Rattle.homeo_certificate.proofs.TextReads.{plain_string}
-use Rattle.homeo_lines.specs.Laws.{AreNamed, IsSmallCall, IsSmallFinding, IsSmallBreach, IsValue, IsSmallSaid, IsSmallPast, IsText, IsSmallRequest, IsSmallPath, IsSmallAnswer, AreValues, IsSmallMode, AllKept, IsSmallNode, IsSmallDesk, IsShown}
+use Rattle.homeo_lines.specs.Laws.{IsText, IsShown}
+use Rattle.homeo_lines.specs.SmallNumbers.{AreNamed, IsSmallCall, IsSmallFinding, IsSmallBreach, IsValue, IsSmallSaid, IsSmallPast, IsSmallRequest, IsSmallPath, IsSmallAnswer, AreValues, IsSmallMode, AllKept, IsSmallNode, IsSmallDesk}
 use Rattle.homeo_lines.specs.Lines as l
 use Rattle.homeo_lines.specs.Members.{list, value_of, text_at, list_at, number_at, small_at, each, each_from}
 use Rattle.homeo_lines.specs.Named.{client_name}
 use Rattle.homeo_lines.specs.Read.{finding_of, named_call_of, breach_of, database_at, said_of, past_of, request_of, path_by, path_of, prints_of, answer_of, maybe, mode_by, mode_of, all_kept, node_of, first_format, state_of, maybe_state}
 use Rattle.homeo_lines.specs.Written.{Field, members_of, object_of, count_data, maybe_data, finding_data, named_call_fields, breach_fields, breach_data, said_fields, said_data, past_fields, past_data, path_fields, answer_fields, given_fields, given_data, request_fields, request_data, mode_name, closing_fields, site_fields, state_fields, state_data, type_fields, body_data, line_json}
 use Rattle.homeo_lines.specs.Written.{breach_of as by_of}
-use Rattle.homeo_lines.proofs.ReadBack.{Becomes, stays, deeper, null_stays, list_becomes, each_by, settled, FieldsBecome, no_fields, more_fields, object_becomes, count_stays, number_is, small_is, values_are, list_is, finding_stays, finding_is, named_call_is, breach_is, breach_stays, database_is, said_is, deltas_stay, said_stays, settled_said, said_got, past_is, past_stays, line_with, line_becomes}
+use Rattle.homeo_plan.proofs.Covering.{each_map}
+use Rattle.homeo_lines.proofs.ReadBack.{Becomes, stays, deeper, null_stays, list_becomes, settled, FieldsBecome, no_fields, more_fields, object_becomes, count_stays, number_is, small_is, values_are, list_is, finding_stays, finding_is, named_call_is, breach_is, breach_stays, database_is, said_is, deltas_stay, said_stays, settled_said, said_got, past_is, past_stays, line_with, line_becomes}
 
 -- ---- what may be missing
 maybe_becomes : {A : Type 0} (n : ℕ) (f g : A → Data) (o : Option A) → IfSome o (λ x. Becomes n (f x) (g x)) → Becomes n (maybe_data f o) (maybe_data g o)
@@ -270,11 +272,11 @@ module _ (w : s.Workload) (names : AreNamed w) where
       (more_fields 5 (codes "queue") _ _ _ _ refl
       (deeper 2 5 _ _ (omega arith)
       (list_becomes 1 (request_data w) seen_request x.queue
-      (each_by (IsSmallRequest w site) (λ r. Becomes 1 (request_data w r) (seen_request r)) (request_becomes site) x.queue h.queue)))
+      (each_map (IsSmallRequest w site) (λ r. Becomes 1 (request_data w r) (seen_request r)) (request_becomes site) x.queue h.queue)))
       (more_fields 5 (codes "answered") _ _ _ _ refl
       (deeper 3 5 _ _ (omega arith)
       (list_becomes 2 (given_data w) seen_answer x.answered
-      (each_by (IsSmallAnswer w site) (λ a. Becomes 2 (given_data w a) (seen_answer a)) (answer_becomes site) x.answered h.answered)))
+      (each_map (IsSmallAnswer w site) (λ a. Becomes 2 (given_data w a) (seen_answer a)) (answer_becomes site) x.answered h.answered)))
       (no_fields 5))))))))))))))
 
   all_kept_are : (xs : List (Option Said)) → length xs ≡ sites_of w → AllKept w 0 xs → all_kept w (map seen_said xs) ≡ Some xs

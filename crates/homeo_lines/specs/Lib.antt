@@ -4,5 +4,6 @@ pub mod Lines
 pub mod Members
 pub mod Named
 pub mod Read
+pub mod SmallNumbers
 pub mod Written
 pub mod inner

@@ -1,6 +1,6 @@
 //! What is true of all lines.
 
-ghost use Rattle.homeo_lines.specs.Laws.{AcceptedAreNamed, CallsAreSmall, PacketsReadBack, PastsReadBack, StatesReadBack};
+ghost use Rattle.homeo_lines.specs.Laws.{AcceptedAreNamed, CallsAreSmall, PacketsReadBack, PastsAreSmall, PastsReadBack, SentAreSmall, StatesReadBack};
 
 /// A packet that is written is read back as that packet.
 pub fn packets_read_back()
@@ -25,4 +25,15 @@ pub fn clients_are_named()
 /// In an accepted text each call that a client of a site has is found by its client's name and its number, which all JSON readers have.
 pub fn calls_are_small()
     ensures { CallsAreSmall }
+{}
+
+/// What nodes of an accepted text send has only numbers that all JSON readers have, where its round is below 2^53, and so is read back, if
+/// what it tells of a treaty has: deltas, calls and sites are small.
+pub fn sent_packets_are_small()
+    ensures { SentAreSmall }
+{}
+
+/// How a node of an accepted text has closed a round has only such numbers too.
+pub fn pasts_are_small()
+    ensures { PastsAreSmall }
 {}

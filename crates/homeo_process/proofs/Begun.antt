@@ -6,7 +6,7 @@ use Rattle.homeo_syntax.specs.Source as s
 use Rattle.homeo_syntax.specs.SourceView.{plain_workload}
 use Rattle.homeo_syntax.specs.declared.workload.Workload.{Workload}
 use Rattle.homeo_history.specs.Legal.{IsCallAt}
-use Rattle.homeo_history.proofs.Lists.{map_map}
+use Rattle.std.proofs.lemmas.Simd.{map-map}
 use Rattle.homeo_desk.specs.DeskView as d
 use Rattle.homeo_desk.specs.DeskView.{DeskValue, Reply, desk_of, last_answers, no_answers, plain_reply}
 use Rattle.homeo_desk.specs.declared.output.Answer.{Answer}
@@ -26,7 +26,7 @@ desk_is work state = ap (λ (replies : List Reply). let desk : DeskValue = recor
   made = state.made;
   queue = state.queue.items;
   answered = last_answers replies (no_answers (plain_workload work));
-} in desk) (sym (map_map reply_of plain_answer state.answered.items))
+} in desk) (sym (map-map reply_of plain_answer state.answered.items))
 
 pub may_begin : (w : s.Workload) (state : DeskState) → t.CanBegin w (plain_state state) → d.CanBegin w state
 may_begin w state can = record {
