@@ -20,10 +20,10 @@ use Rattle.homeo_plan.specs.declared.treaty.Broken.{Broken}
 use Rattle.homeo_plan.specs.Each.{Each}
 use Rattle.homeo_plan.specs.Planned.{sites_of}
 use Rattle.homeo_plan.proofs.BoundSizes.{most, bounds_small}
-use Rattle.homeo_plan.proofs.SmallForms.{size_at}
-use Rattle.homeo_history.proofs.Lists.{get_lt}
+use Rattle.homeo_lform.proofs.Light.{size_at}
+use Rattle.std.proofs.lemmas.Option.{slice_get_within}
 use Rattle.homeo_site.specs.SiteState.{SiteState, SiteHolds, step_finding}
-use Rattle.homeo_core.proofs.FewClients.{sites_of_few}
+use Rattle.homeo_site.proofs.Limits.{few_sites}
 use Rattle.homeo_nodes.specs.declared.breach.Breach.{Breach}
 use Rattle.homeo_nodes.specs.Nodes.{Said, Past, Packet, Want, Stop, State, round_of, Node, Reaction, Input, Asked, Served, Came, Withdrew, Ticked, is_running, is_stopped, is_arbiter, has_state, tried, served_by, most_waiting, taken, received, withdrawing, withdrawn, resent, reaction, World, Event, At, place_of, reacts, happens_at, happens, at_start, after, reached}
 use Rattle.homeo_nodes.proofs.Carrying.{AreAt}
@@ -167,13 +167,13 @@ module _ (w : s.Workload) (accepted : IsAccepted w) where
     held = reached_holds w events accepted
 
     site_there : (i r : ℕ) (P : Node → Type 0) → Since x.nodes i r P → i < sites_of w
-    site_there i r P since = let lt = get_lt x.nodes i since.node since.here in let count = held.talk.count in omega (arith, lt, count)
+    site_there i r P since = let lt = slice_get_within x.nodes i since.node since.here in let count = held.talk.count in omega (arith, lt, count)
 
     breach_small : (b : Breach) → Sent x.packets (Want b) → b.round < 2 ^ 53 → IsSmallFound (Want b) → IsSmallBreach w b
     breach_small b at round found =
         let stands = held.talk.packets (Want b) at in
         let lt = site_there b.site b.round _ stands.1 in
-        let few = sites_of_few w accepted in
+        let few = few_sites w accepted in
         record { round = round; site = omega (arith, lt, few); call = call_small w b.site b.call accepted stands.0; broken = found }
 
     packet_small : (p : Packet) → Sent x.packets p → round_of p < 2 ^ 53 → IsSmallFound p → IsSmall w p
@@ -184,7 +184,7 @@ module _ (w : s.Workload) (accepted : IsAccepted w) where
         let stands = held.talk.packets (State r i said) at in
         let values = reached_have events (State r i said) at in
         let lt = site_there i r _ stands.1 in
-        let few = sites_of_few w accepted in
+        let few = few_sites w accepted in
         record {
           small_round = round;
           small_site = omega (arith, lt, few);

@@ -12,7 +12,9 @@ use Rattle.homeo_syntax.specs.declared.workload.Workload.{Workload}
 use Rattle.homeo_meaning.specs.declared.call.CallId.{CallId}
 use Rattle.homeo_plan.specs.Planned.{sites_of}
 use Rattle.homeo_history.specs.Legal.{IsCallAt}
-use Rattle.homeo_history.proofs.Lists.{get_index, get_map, get_map_back, map_map, set_cases}
+use Rattle.homeo_history.proofs.Lists.{get_index, get_map_back, set_cases}
+use Rattle.homeo_lemmas.proofs.Places.{get_map}
+use Rattle.std.proofs.lemmas.Simd.{map-map}
 use Rattle.homeo_nodes.specs.Nodes as n
 use Rattle.homeo_nodes.specs.Nodes.{of_past, at_start, reached}
 use Rattle.homeo_nodes.specs.Told.{told_in}
@@ -190,7 +192,7 @@ unfolding definitions site_definitions
 first_led work =
     let sites = range_with_len 0 (sites_of (plain_workload work)) in
     record {
-      run = subst (IsRun work) (sym (ap (λ ts. desks_with ts) (map_map told_of (first_place work) sites))) begin;
+      run = subst (IsRun work) (sym (ap (λ ts. desks_with ts) (map-map told_of (first_place work) sites))) begin;
       places = λ i p e.
           let k = get_map_back (first_place work) sites i p e in
           let at = (range_at 0 (sites_of (plain_workload work)) i k.0 k.1.0).is in

@@ -141,7 +141,7 @@ HasDesk w site (Some state) = (state.node.number ≡ site) × IsReached w state.
 abbrev pub Starts : (d : Driven) → (node : List ℕ) → (nodes : List (List ℕ)) → Option l.State → Option (List ℕ) → Option ℕ → Driven → List ℕ → Type 0
 Starts d node nodes state from number after written =
     Begins d node nodes state from number after written
-  ⊎ (Fails d from number malformed after written × ((site : ℕ) → AreNames (plain_workload d.work) node nodes site → HasDesk (plain_workload d.work) site state → ⊥))
+    ⊎ (Fails d from number malformed after written × ((site : ℕ) → AreNames (plain_workload d.work) node nodes site → HasDesk (plain_workload d.work) site state → ⊥))
 
 -- ---- a line
 -- of a node that has begun
