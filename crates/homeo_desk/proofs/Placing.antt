@@ -10,8 +10,8 @@ use Rattle.homeo_syntax.specs.Source as s
 use Rattle.homeo_plan.specs.declared.treaty.Broken.{Broken}
 use Rattle.homeo_plan.specs.Planned.{sites_of}
 use Rattle.homeo_history.specs.Answers as h
-use Rattle.homeo_history.specs.History.{Closing}
-use Rattle.homeo_site.specs.SiteState.{step_finding}
+use Rattle.homeo_history.specs.History.{Closing, Entry}
+use Rattle.homeo_site.specs.SiteState.{step_finding, step_prints}
 use Rattle.homeo_nodes.specs.declared.breach.Breach.{Breach}
 use Rattle.homeo_nodes.specs.Brief.{Brief, briefly_by, briefly, briefly_all, brief_at, brief_end, site_at}
 use Rattle.homeo_nodes.specs.Making.{Called}
@@ -52,14 +52,14 @@ placed_earlier round made mid last count [] le placed = let up = placed.0 in (om
 placed_earlier round made mid last count (r ∷ rs) le placed =
     let up = placed.0 in
     let same = in_later round made mid r.round le up in
-    (omega arith, subst (IsPlaced r.path) same placed.1.0, subst (λ m. ArePlaced r.round (counted r.path m) rs last count) same placed.1.1)
+    (omega arith, subst (IsPlaced r.path) same placed.1, subst (λ m. ArePlaced r.round (counted r.path m) rs last count) same placed.2)
 
 pub placed_then : (round made mid so_many last count : ℕ) (rs qs : List Reply) → ArePlaced round made rs mid so_many → ArePlaced mid so_many qs last count →
     ArePlaced round made (rs ++ qs) last count
 placed_then round made mid so_many last count [] qs first more =
     placed_earlier round made mid last count qs first.0 (subst (λ m. ArePlaced mid m qs last count) first.1 more)
 placed_then round made mid so_many last count (r ∷ rs) qs first more =
-    (first.0, first.1.0, placed_then r.round (counted r.path (made_in round made r.round)) mid so_many last count rs qs first.1.1 more)
+    (first.0, first.1, placed_then r.round (counted r.path (made_in round made r.round)) mid so_many last count rs qs first.2 more)
 
 pub put_then : (p q end : Places) (rs qs : List Reply) → ArePut p rs q → ArePut q qs end → ArePut p (rs ++ qs) end
 put_then p q end [] qs first more = subst (λ z. ArePut z qs end) first more
@@ -137,11 +137,11 @@ own_rises i round last c le = go (eqb c.site i)
 
 one_rises : (w : s.Workload) (i : ℕ) (b : Brief) (c : Called) (o : Option Broken) → Rises b.round (rounds_of (briefly_by w i b c o).answers) (briefly_by w i b c o).brief.round
 unfolding definitions history_definitions
-one_rises w i b c None = go (eqb c.site i)
+one_rises w i b c None = go (record { call = c.call; prints = step_prints w (site_at b c.site) c.call }) (eqb c.site i)
   where
-    go : (t : Bool) → Rises b.round (rounds_of (cond t (h.local_answer b.round i _ ∷ []) [])) b.round
-    go true = (omega arith, omega arith)
-    go false = omega arith
+    go : (e : Entry) (t : Bool) → Rises b.round (rounds_of (cond t (h.local_answer b.round i e ∷ []) [])) b.round
+    go e true = (omega arith, omega arith)
+    go e false = omega arith
 one_rises w i b c (Some broken) = own_rises i b.round (suc b.round) _ (omega arith)
 
 all_rise : (w : s.Workload) (i : ℕ) (calls : List Called) (b : Brief) → Rises b.round (rounds_of (briefly_all w i calls b).answers) (briefly_all w i calls b).brief.round

@@ -1,6 +1,7 @@
 -- Runs of desks are events of nodes.
 use Rattle.homeo_meaning.specs.Key.{definitions as meaning_definitions}
 use Rattle.homeo_history.specs.Key.{definitions as history_definitions}
+use Rattle.homeo_site.specs.Key.{definitions as site_definitions}
 use Rattle.homeo_nodes.specs.Key.{definitions}
 use Rattle.std.proofs.Common.{inl, inr, ◌≡◌, ℕ, zero, suc, ◌<◌, ◌≤◌, List, [], ◌∷◌, ◌++◌, length, eqb, true, Option, Some, None, refl, sym, ap, subst, ◌∙◌, append-nil, append_assoc, arith, slice_set}
 use Rattle.std.specs.Prelude.{slice_get, ◌⊎◌, All, Contains, IsSome, option_map, nat_lt, ◌&&◌}
@@ -212,7 +213,7 @@ record IsLed (work : Workload) (x : Desks) : Type 0 where
   pub are : AreNodes (plain_workload work) x events
 
 first_led : (work : Workload) → IsLed work (first_desks work)
-unfolding definitions
+unfolding definitions site_definitions
 first_led work =
     let w = plain_workload work in
     let sites = range_with_len 0 (sites_of w) in

@@ -2,6 +2,7 @@ use Rattle.std.proofs.Common.{◌∷◌, [], ◌++◌, ◌∙◌, sym, subst}
 use Rattle.std.specs.Prelude.{◌≤◌}
 use Rattle.std.proofs.lemmas.Result.{on_ok_weaker}
 use Rattle.homeo_history.specs.Answers.{called}
+use Rattle.homeo_history.specs.Key.{definitions}
 use Rattle.homeo_history.specs.HistoryView.{plain_answer}
 use Rattle.homeo_desk.specs.declared.output.Request.{Request}
 use Rattle.homeo_desk.specs.inner.Keeping.{Tells, put}
@@ -33,6 +34,7 @@ returns-clause-tells c =
     (c.answer_request.ensures.tells was c.next-path.ensures.placed)
 
 pub returns-clause-round : goal.returns-clause-round
+unfolding definitions
 returns-clause-round c = λ last le all.
     let round = c.args.made.round in
     subst (λ (p : Places). p.round ≤ last) (sym (c.answer_request.ensures.places ∙ c.next-path.ensures.put))
