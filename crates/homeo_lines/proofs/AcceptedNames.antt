@@ -36,6 +36,7 @@ use Rattle.homeo_core.proofs.FewClients.{few_from}
 use Rattle.homeo_report.proofs.CallsTold.{HasDistinctClients}
 use Rattle.homeo_report.proofs.Names.{distinct_clients}
 use Rattle.homeo_lemmas.proofs.Bools.{both, and_first, and_second}
+use Rattle.homeo_core.proofs.SitesOfClients.{not_negative}
 use Rattle.homeo_lines.specs.SmallNumbers.{AreNamed, IsSmallCall}
 use Rattle.homeo_lines.specs.Named.{first_from, client_name, client_called, call_in, call_at}
 
@@ -101,12 +102,6 @@ module _ (w : s.Workload) (accepted : IsAccepted w) where
   }
 
 -- ---- calls
-not_negative : (cs : List s.Client) (i : ℕ) (c : s.Client) → formed.Each (λ (c : s.Client). pos 0 ≤ℤ c.site.value) cs → slice_get cs i ≡ Some c → pos 0 ≤ℤ c.site.value
-unfolding syntax_definitions
-not_negative [] i c h e = absurd (cc)
-not_negative (d ∷ cs) zero c h e = let same : d ≡ c = cc in subst (λ (z : s.Client). pos 0 ≤ℤ z.site.value) same h.0
-not_negative (d ∷ cs) (suc i) c h e = not_negative cs i c h.1 e
-
 natural : (z : ℤ) (n : ℕ) → pos 0 ≤ℤ z → nat_of z ≡ n → int_eq z (pos n) ≡ true
 unfolding meaning_definitions
 natural (pos m) n h e = grind (arith, nat_tests)

@@ -33,11 +33,6 @@ whole_early bytes given f h = record { early = bytes; late = []; are = sym (appe
 pub piece_early : (bytes given piece : List ℕ) (f : FeedValue) → IsAfter bytes given f → length piece ≤ piece_limit → IsEarly (bytes ++ piece)
 piece_early bytes given piece f h few = record { early = bytes; late = piece; are = refl; few = few; so_far = after_so_far bytes given f h }
 
--- a read of nothing leaves all there
-pub end_gave : (a b c : Option (List ℕ)) (bytes ys : List ℕ) (n : ℕ) → Consumes a b bytes → Consumes b c (take n ys) → n ≡ 0 → Consumes a c bytes
-end_gave a b c bytes ys n gave none e =
-    subst (Consumes a c) (ap (λ l. bytes ++ l) (ap (λ m. take m ys) e) ∙ append-nil bytes) (Consumes-trans a b c bytes (take n ys) gave none)
-
 -- ---- what was written
 pub wrote_all : (a b c d : Option (List ℕ)) (bytes given : List ℕ) (f : FeedValue) → IsAfter bytes given f → Consumes a b bytes → TookExactly c d given → WroteAll a b c d
 wrote_all a b c d bytes given f h gave took = (bytes, gave, given, gives bytes given f.text f.lines h, took)

@@ -4,7 +4,8 @@ use Rattle.std.proofs.KnownBytes.{Consumes-trans, Consumes-nil, Consumes-kept, A
 use Rattle.homeo_syntax.specs.declared.workload.Refusal.{Refusal}
 use Rattle.homeo_process.specs.declared.process.Ending.{Ending}
 use Rattle.homeo_process.specs.declared.process.Ending.TheVariants as e
-use Rattle.homeo_process.proofs.Reading.{after_so_far, whole_early, piece_early, end_gave, wrote_all, wrote_early, wrote_some, wrote_at_end}
+use Rattle.homeo_lemmas.proofs.Readers.{end_gave}
+use Rattle.homeo_process.proofs.Reading.{after_so_far, whole_early, piece_early, wrote_all, wrote_early, wrote_some, wrote_at_end}
 use Rattle.homeo_process.proofs.process.serve.Goals as goal
 
 same_stop : (r q : Refusal) → ◌≡◌ {A = Ending} (e.Refused r) (e.Refused q) → Some r ≡ Some q
