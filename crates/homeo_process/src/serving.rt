@@ -1,13 +1,13 @@
 //! What a node that has begun does with a message.
 
-ghost use Rattle.std.specs.Prelude.{◌≡◌, ℕ, List, Option, None, Some, OnOk};
+ghost use Rattle.std.specs.Prelude.{◌≡◌, None, Some, OnOk};
 ghost use Rattle.homeo_history.specs.Legal.{IsCallAt};
 ghost use Rattle.homeo_syntax.specs.SourceView.{plain_workload};
 ghost use Rattle.homeo_live.specs.LiveView.{plain_packet, plain_past};
 ghost use Rattle.homeo_lines.specs.Lines as l;
 ghost use Rattle.homeo_lines.specs.LineView.{plain_message};
 ghost use Rattle.homeo_process.specs.Taking.{Asks};
-ghost use Rattle.homeo_process.specs.inner.Voices.{Appends, IsServed, IsTold, begun};
+ghost use Rattle.homeo_process.specs.inner.Voices.{Appends, IsServed, IsTicked, IsTold, begun};
 
 use crate::voice::Voice;
 use homeo_desk::{Desk, Output, Request};
@@ -156,7 +156,7 @@ fn tell(
 }
 
 fn serve_tick(alloc: Global, voice: &Voice, desk: &Desk, out: &mut Vec<u8>) -> Result<(), Memory>
-    ensures { (from : Option (List ℕ)) (number : Option ℕ) → OnOk result (IsServed voice.now desk.now l.Tick from number desk.now out.old.items out.new.items) }
+    ensures { OnOk result (IsTicked voice.now desk.now out.old.items out.new.items) }
 {
     let mut outputs = List::new(alloc);
     desk.tick(alloc, &mut outputs)?;

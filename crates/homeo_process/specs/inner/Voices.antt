@@ -26,3 +26,7 @@ begun v desk = record { work = v.work; names = v.names; desk = Some desk }
 -- what it does with a message, by which its desk becomes this
 abbrev pub IsServed : Voice → DeskValue → l.Message → Option (List ℕ) → Option ℕ → DeskValue → (old new : List ℕ) → Type 0
 IsServed v desk message from number after old new = Appends (Serves (begun v desk) desk message from number (begun v after)) old new
+
+-- it does so whoever asks
+abbrev pub IsTicked : Voice → DeskValue → (old new : List ℕ) → Type 0
+IsTicked v desk old new = (from : Option (List ℕ)) (number : Option ℕ) → IsServed v desk l.Tick from number desk old new

@@ -1,4 +1,4 @@
-use Rattle.std.proofs.Common.{◌∷◌, [], sym, ap}
+use Rattle.std.proofs.Common.{◌∷◌, [], is_some, sym, ap}
 use Rattle.std.proofs.lemmas.Result.{on_ok_weaker}
 use Rattle.homeo_live.specs.LiveView.{plain_packet}
 use Rattle.homeo_process.specs.inner.Voices.{IsTold}
@@ -13,6 +13,6 @@ returns c =
     let outputs = c.receive.new.outputs.items in
     on_ok_weaker c.tell.result
     (appends_as (IsTold v outputs from number) _ c.args.out.now.items c.tell.new.out.items (λ written told.
-    takes v c.args.desk.now c.receive.new.desk (plain_packet c.args.packet ∷ []) c.new-outputs.result.items outputs from number written c.in-Some.site _ (sym c.in-Some.ensures)
+    takes v c.args.desk.now c.receive.new.self (plain_packet c.args.packet ∷ []) c.new-outputs.result.items outputs from number written _ (ap is_some (sym c.in-Some.ensures))
     (ap (λ l. l.items) c.new-outputs.ensures) c.in_ok-fits.ensures.moves told))
     c.tell.ensures
