@@ -15,13 +15,22 @@ use Rattle.homeo_lines.specs.Lines as l
 use Rattle.homeo_lines.specs.LineView.{plain_state}
 use Rattle.homeo_lines.specs.Read.{malformed}
 use Rattle.homeo_process.specs.Driven.{Voice, line_to, lines_of}
-use Rattle.homeo_process.specs.Taking.{Complains, Moves, Takes}
+use Rattle.homeo_process.specs.Taking.{Complains, Fails, Moves, Takes}
 use Rattle.homeo_process.specs.inner.Voices.{Appends, IsTold, IsServed, begun}
 use Rattle.homeo_process.proofs.Begun.{desk_is, can_begin}
 
 -- ---- what is appended
 pub appends_as : (P Q : List ℕ → Type 0) (old new : List ℕ) → ((written : List ℕ) → P written → Q written) → Appends P old new → Appends Q old new
 appends_as P Q old new f a = record { written = a.written; are = a.are; is = f a.written a.is }
+
+-- ---- what is malformed
+pub fails : (v : Voice) (desk : DeskValue) (from : Option (List ℕ)) (number : Option ℕ) (code : ℕ) (old new : List ℕ) → code ≡ malformed →
+    Appends (Complains v from number code) old new → Appends (λ written. Fails (begun v desk) from number malformed (begun v desk) written) old new
+fails v desk from number code old new is said = record {
+  written = said.written;
+  are = said.are;
+  is = record { same = refl; complains = subst (λ k. Complains v from number k said.written) is said.is };
+}
 
 -- ---- packets
 module _ (v : Voice) (old new : DeskValue) (packets : List n.Packet) (before outputs : List Output) where
