@@ -311,7 +311,7 @@ module _ (work : Workload) (x y : Cluster) (led : IsLed work x) (step : Restarts
   restart_led =
       let i = step.site in
       let told = step.old.told in
-      let next : Place = record { node = before_all step.old.node.work; told = told } in
+      let next : Place = record { node = step.node; told = told } in
       let place = led.places i step.old step.here in
       let desks = map told_of x.places in
       let same : slice_set desks i told ≡ desks =
@@ -319,7 +319,7 @@ module _ (work : Workload) (x y : Cluster) (led : IsLed work x) (step : Restarts
       let desks_then : desks_of y ≡ desks_of x =
       ap desks_of step.then ∙ ap (λ ts. desks_with ts) (map-set told_of x.places i next ∙ same) in
       let next_is : IsPlace work i next =
-      record { node_work = place.node_work; desk_work = place.desk_work; number = place.number; has = tt } in
+      record { node_work = step.work ∙ place.node_work; desk_work = place.desk_work; number = place.number; has = step.has } in
       record {
         run = subst (IsRun work) (sym desks_then) led.run;
         places = λ k p e. places_then work x led i next next_is k p (ap (λ (v : Cluster). slice_get v.places k) (sym step.then) ∙ e);

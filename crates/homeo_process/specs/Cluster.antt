@@ -114,13 +114,17 @@ pub record TakesLine (x y : Cluster) : Type 0 where
     packets = x.packets ++ packets_of (outputs_of old.node line after written taken);
   }
 
--- a site's node ends, and one that hasn't begun is in its place
+-- A site's node ends, and another is in its stead: one that hasn't begun, or one that has come to the same desk, by whatever lines it took
+-- again and with all that it gave by them dropped.
 pub record Restarts (x y : Cluster) : Type 0 where
   pub site : ℕ
   pub old : Place
   pub here : slice_get x.places site ≡ Some old
+  pub node : Driven
+  pub work : node.work ≡ old.node.work
+  pub has : IfSome node.desk (λ desk. desk ≡ old.told.desk)
   pub then : y ≡ record {
-    places = slice_set x.places site (record { node = before_all old.node.work; told = old.told });
+    places = slice_set x.places site (record { node = node; told = old.told });
     packets = x.packets;
   }
 
