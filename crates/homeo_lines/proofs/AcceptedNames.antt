@@ -3,7 +3,7 @@ use Rattle.homeo_syntax.specs.Key.{definitions as syntax_definitions}
 use Rattle.homeo_meaning.specs.Key.{definitions as meaning_definitions}
 use Rattle.homeo_history.specs.Key.{definitions as history_definitions}
 use Rattle.homeo_print.specs.Key.{definitions as print_definitions}
-use Rattle.std.proofs.Common.{◌≡◌, ℕ, zero, suc, ◌+◌, ◌<◌, ◌≤◌, ◌^◌, nat_lt, nat_le, Bool, true, false, ◌&&◌, if◌then◌else◌, List, [], ◌∷◌, ◌++◌, map, length, ℤ, pos, negsuc, ◌≤ℤ◌, Option, Some, None, option_map, option_and_then, slice_get, IsUtf8, length-append, refl, sym, ap, ap₂, ◌∙◌, subst, arith, le-leb}
+use Rattle.std.proofs.Common.{◌≡◌, ℕ, zero, suc, ◌+◌, ◌<◌, ◌≤◌, nat_lt, Bool, true, false, if◌then◌else◌, List, [], ◌∷◌, length, ℤ, pos, negsuc, ◌≤ℤ◌, Option, Some, None, option_map, option_and_then, slice_get, IsUtf8, length-append, refl, sym, ap, ◌∙◌, subst, arith, le-leb}
 use Rattle.std.specs.Prelude.{unwrap_or}
 use Rattle.std.specs.List.{list_all, flat_map}
 use Rattle.std.specs.Option.{option_map_or}
@@ -17,7 +17,7 @@ use Rattle.std.proofs.lemmas.Slice.Eq.{bytes_eq-Decides}
 use Rattle.json.proofs.Printed.Utf8.{are_ascii, IsUtf8-are_ascii}
 use Rattle.homeo_syntax.specs.Source as s
 use Rattle.homeo_syntax.specs.Lexemes.{is_word}
-use Rattle.homeo_syntax.specs.WellFormed.{IsName, IsWellFormed}
+use Rattle.homeo_syntax.specs.WellFormed.{IsName}
 use Rattle.homeo_syntax.specs.WellFormed as formed
 use Rattle.homeo_syntax.specs.declared.token.Version.{Version}
 use Rattle.homeo_meaning.specs.Acceptance.{IsAccepted}
@@ -38,7 +38,7 @@ use Rattle.homeo_report.proofs.Names.{distinct_clients}
 use Rattle.homeo_lemmas.proofs.Bools.{both, and_first, and_second}
 use Rattle.homeo_core.proofs.SitesOfClients.{not_negative}
 use Rattle.homeo_lines.specs.SmallNumbers.{AreNamed, IsSmallCall}
-use Rattle.homeo_lines.specs.Named.{first_from, client_name, client_called, call_in, call_at}
+use Rattle.homeo_lines.specs.Named.{first_from, client_name, client_called, call_in}
 
 -- ---- names are texts
 word_is_ascii : (b : ℕ) → is_word b ≡ true → nat_lt b 128 ≡ true

@@ -1,6 +1,6 @@
 -- What is written of packets is read back.
 use Rattle.homeo_plan.specs.Key.{definitions as plan_definitions}
-use Rattle.std.proofs.Common.{◌≡◌, ℕ, zero, suc, ◌+◌, ◌<◌, ◌≤◌, ◌^◌, ◌==◌, nat_lt, nat_le, int_le, Bool, true, false, ◌&&◌, if◌then◌else◌, List, [], ◌∷◌, ◌++◌, map, length, ℤ, pos, negsuc, neg_ℤ, Option, Some, None, option_map, option_and_then, slice_get, IsUtf8, refl, sym, ap, ap₂, ◌∙◌, subst, arith, append-nil, le-leb}
+use Rattle.std.proofs.Common.{◌≡◌, ℕ, suc, ◌+◌, ◌<◌, ◌≤◌, ◌^◌, nat_lt, nat_le, Bool, true, false, ◌&&◌, if◌then◌else◌, List, [], ◌∷◌, ◌++◌, map, length, ℤ, pos, negsuc, Option, Some, None, option_map, option_and_then, slice_get, IsUtf8, refl, sym, ap, ap₂, ◌∙◌, arith, append-nil, le-leb}
 use Rattle.std.specs.Prelude.{codes}
 use Rattle.std.proofs.lemmas.Bool.{lt-ltb, eq-eqb}
 use Rattle.std.proofs.lemmas.Int.{ints}
@@ -12,8 +12,8 @@ use Rattle.json.specs.Tree as tree
 use Rattle.json.proofs.Printed.Tokens.{tokens-print}
 use Rattle.json.proofs.Printed.Trees.{value-json_tokens, ArePrintable-json_tokens}
 use Rattle.json.proofs.Printed.Utf8.{are_ascii, IsUtf8-are_ascii, IsUtf8-quoted}
-use Rattle.serde_json.specs.Data.{Data, null, string, array, object, Items, item, Members, no_members, member, put}
-use Rattle.serde_json.specs.Find.{get, as_str, as_i64}
+use Rattle.serde_json.specs.Data.{Data, null, string, array, object, Items, item, Members, no_members, put}
+use Rattle.serde_json.specs.Find.{get, as_str}
 use Rattle.serde_json.specs.Read.{of_json, of_items, of_members, read, max_depth}
 use Rattle.serde_json.specs.View.{items_of}
 use Rattle.serde_json.specs.Written.{outline, items_outline, members_outline, comma_if, compact_text, items_text, members_text}
@@ -28,16 +28,15 @@ use Rattle.homeo_nodes.specs.declared.breach.Breach.{Breach}
 use Rattle.homeo_nodes.specs.Nodes.{Said, Past, Packet, Want, Stop, State}
 use Rattle.homeo_print.specs.Names.{object_names}
 use Rattle.homeo_certificate.specs.Json.{whole_data, list_data, wholes_data}
-use Rattle.homeo_certificate.specs.Shape.{IsWord}
 use Rattle.homeo_certificate.specs.Text.{IsJsonOf}
 use Rattle.homeo_certificate.proofs.TextReads.{Plain, plain_list, plain_whole, plain_string}
 use Rattle.homeo_lines.specs.Laws.{IsText}
 use Rattle.homeo_lines.specs.SmallNumbers.{AreNamed, IsSmallCall, IsSmallFinding, IsSmallBreach, IsValue, IsSmallSaid, IsSmallState, IsSmall, AllSmall, IsSmallPast}
 use Rattle.homeo_lines.specs.Lines as l
-use Rattle.homeo_lines.specs.Members.{list, list_of, whole, integer, below, kept, value_of, text_at, list_at, number_at, small_at, each_from}
+use Rattle.homeo_lines.specs.Members.{list, whole, integer, below, kept, value_of, text_at, list_at, number_at, small_at, each_from}
 use Rattle.homeo_lines.specs.Named.{client_name, client_called, call_in, call_at}
-use Rattle.homeo_lines.specs.Read.{finding_from, finding_of, call_from, call_of, named_call_of, breach_of, values_of, database_at, calls_of, calls_in, said_of, stopped_of, all_said, past_of, message_by, message_of, line_of, or_malformed, IsReadAs}
-use Rattle.homeo_lines.specs.Written.{Field, members_of, object_of, count_data, maybe_data, finding_data, call_data, named_call_fields, breach_fields, calls_fields, said_fields, said_data, past_fields, body_data, line_data, line_json}
+use Rattle.homeo_lines.specs.Read.{finding_of, call_of, named_call_of, breach_of, values_of, database_at, calls_of, calls_in, said_of, stopped_of, all_said, past_of, message_by, message_of, line_of, or_malformed, IsReadAs}
+use Rattle.homeo_lines.specs.Written.{Field, members_of, object_of, count_data, maybe_data, finding_data, call_data, breach_fields, calls_fields, said_fields, said_data, past_fields, body_data, line_data, line_json}
 use Rattle.homeo_lines.proofs.Lists.{list_of-items_of}
 
 -- ---- values whose text reads as another value: their members in order
@@ -181,7 +180,7 @@ value_is (pos n) h =
     ap (λ b. option_and_then kept (if b then Some (pos n) else None)) (lt-ltb n (2 ^ 63) (grind (arith, ints, high))) ∙ kept_is (pos n) h
 value_is (negsuc n) h = kept_is (negsuc n) h
 
-pub values_are : (k : ℕ) (ns : List ℤ) → Each IsValue ns → each_from (λ _. value_of) k (map whole_data ns) ≡ Some ns
+values_are : (k : ℕ) (ns : List ℤ) → Each IsValue ns → each_from (λ _. value_of) k (map whole_data ns) ≡ Some ns
 unfolding plan_definitions
 values_are k [] h = refl
 values_are k (n ∷ ns) h =

@@ -2,7 +2,7 @@
 use Rattle.homeo_meaning.specs.Key.{definitions as meaning_definitions}
 use Rattle.homeo_plan.specs.Key.{definitions as plan_definitions}
 use Rattle.homeo_nodes.specs.Key.{definitions}
-use Rattle.std.proofs.Common.{inl, inr, ◌≡◌, ℕ, zero, suc, ◌+◌, ◌<◌, ◌≤◌, ◌^◌, nat_lt, ◌==◌, ◌&&◌, not, cond, Bool, true, false, List, [], ◌∷◌, ◌++◌, length, ℤ, pos, ◌+ℤ◌, Option, Some, None, refl, sym, ap, ◌∙◌, subst, arith, slice_index_or}
+use Rattle.std.proofs.Common.{◌≡◌, ℕ, suc, ◌+◌, ◌<◌, ◌≤◌, ◌^◌, nat_lt, ◌==◌, ◌&&◌, not, cond, Bool, true, false, List, [], ◌∷◌, ◌++◌, length, ℤ, pos, ◌+ℤ◌, Option, Some, None, refl, ◌∙◌, subst, arith, slice_index_or}
 use Rattle.std.specs.Prelude.{slice_get, is_some, Contains}
 use Rattle.std.specs.Int.RustNames.{unsigned_abs}
 use Rattle.std.proofs.lemmas.Int.{ints}
@@ -25,16 +25,15 @@ use Rattle.std.proofs.lemmas.Option.{slice_get_within}
 use Rattle.homeo_site.specs.SiteState.{SiteState, SiteHolds, step_finding}
 use Rattle.homeo_site.proofs.Limits.{few_sites}
 use Rattle.homeo_nodes.specs.declared.breach.Breach.{Breach}
-use Rattle.homeo_nodes.specs.Nodes.{Said, Past, Packet, Want, Stop, State, round_of, Node, Reaction, Input, Asked, Served, Came, Withdrew, Ticked, is_running, is_stopped, is_arbiter, has_state, tried, served_by, most_waiting, taken, received, withdrawing, withdrawn, resent, reaction, World, Event, At, place_of, reacts, happens_at, happens, at_start, after, reached}
+use Rattle.homeo_nodes.specs.Nodes.{Said, Past, Packet, Want, Stop, State, round_of, Node, Reaction, Input, Asked, Served, Came, Withdrew, Ticked, is_running, is_stopped, is_arbiter, has_state, tried, served_by, most_waiting, taken, received, withdrawing, withdrawn, reaction, World, Event, At, place_of, reacts, happens_at, happens, at_start, after, reached}
 use Rattle.homeo_nodes.proofs.Carrying.{AreAt}
 use Rattle.homeo_nodes.proofs.Happening.{IsHeld, event_holds}
 use Rattle.homeo_nodes.proofs.Holding.{node_holds}
 use Rattle.homeo_nodes.proofs.Sending.{Sent, sent_cases, sent_one}
 use Rattle.homeo_nodes.proofs.Settling.{Holds}
 use Rattle.homeo_nodes.proofs.Standing.{reached_holds, sent}
-use Rattle.homeo_nodes.proofs.Talking.{Hears, Since, Stands}
+use Rattle.homeo_nodes.proofs.Talking.{Since}
 use Rattle.homeo_nodes.proofs.Ticking.{resent_sent}
-use Rattle.homeo_print.specs.Names.{object_names}
 use Rattle.homeo_report.proofs.CanReport.{length_object_bounds}
 use Rattle.homeo_lines.specs.SmallNumbers.{IsSmallCall, IsSmallFinding, IsSmallBreach, IsSmallSaid, IsSmallState, IsSmall, AllSmall, IsSmallPast, IsValue, AreValues, IsSmallFound}
 use Rattle.homeo_lines.proofs.AcceptedNames.{call_small}

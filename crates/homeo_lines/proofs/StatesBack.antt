@@ -1,15 +1,15 @@
 -- What is written of states is read back.
 use Rattle.homeo_plan.specs.Key.{definitions as plan_definitions}
-use Rattle.std.proofs.Common.{◌≡◌, ℕ, suc, ◌<◌, ◌≤◌, ◌^◌, ◌==◌, if◌then◌else◌, List, [], ◌∷◌, ◌++◌, map, length, ℤ, Option, Some, None, option_map, option_and_then, IsUtf8, refl, sym, ap, ap₂, ◌∙◌, subst, arith}
+use Rattle.std.proofs.Common.{◌≡◌, ℕ, suc, ◌<◌, ◌^◌, if◌then◌else◌, List, [], ◌∷◌, ◌++◌, map, length, ℤ, pos, negsuc, Option, Some, None, option_map, option_and_then, IsUtf8, refl, ap, ◌∙◌, arith}
 use Rattle.std.specs.Prelude.{codes, IfSome}
-use Rattle.std.proofs.lemmas.Bool.{eq-eqb}
+use Rattle.std.proofs.lemmas.Bool.{eq-eqb, lt-ltb}
+use Rattle.std.proofs.lemmas.Int.{ints}
 use Rattle.std.proofs.lemmas.List.{length-map}
 use Rattle.json.proofs.Printed.Utf8.{IsUtf8-are_ascii}
 use Rattle.serde_json.specs.Data.{Data, string}
 use Rattle.serde_json.specs.Find.{get, as_str}
 use Rattle.homeo_syntax.specs.Source as s
 use Rattle.homeo_meaning.specs.declared.call.CallId.{CallId}
-use Rattle.homeo_plan.specs.declared.treaty.Broken.{Broken}
 use Rattle.homeo_plan.specs.Each.{Each}
 use Rattle.homeo_plan.specs.Planned.{sites_of}
 use Rattle.homeo_nodes.specs.declared.breach.Breach.{Breach}
@@ -21,17 +21,18 @@ use Rattle.homeo_desk.specs.declared.output.Path.{Path}
 use Rattle.homeo_desk.specs.declared.output.Path.TheVariants.{Local, Closing}
 use Rattle.homeo_desk.specs.declared.output.Request.{Request}
 use Rattle.homeo_certificate.specs.Json.{whole_data, list_data, wholes_data}
-use Rattle.homeo_certificate.proofs.TextReads.{plain_string}
+use Rattle.homeo_certificate.specs.Shape.{IsWord}
+use Rattle.homeo_certificate.proofs.TextReads.{plain_whole, plain_string}
 use Rattle.homeo_lines.specs.Laws.{IsText, IsShown}
-use Rattle.homeo_lines.specs.SmallNumbers.{AreNamed, IsSmallCall, IsSmallFinding, IsSmallBreach, IsValue, IsSmallSaid, IsSmallPast, IsSmallRequest, IsSmallPath, IsSmallAnswer, AreValues, IsSmallMode, AllKept, IsSmallNode, IsSmallDesk}
+use Rattle.homeo_lines.specs.SmallNumbers.{AreNamed, IsSmallCall, IsSmallBreach, IsSmallSaid, IsSmallPast, IsSmallRequest, IsSmallPath, IsSmallAnswer, IsSmallMode, AllKept, IsSmallDesk}
 use Rattle.homeo_lines.specs.Lines as l
-use Rattle.homeo_lines.specs.Members.{list, value_of, text_at, list_at, number_at, small_at, each, each_from}
+use Rattle.homeo_lines.specs.Members.{list, printed, list_at, number_at, each, each_from}
 use Rattle.homeo_lines.specs.Named.{client_name}
-use Rattle.homeo_lines.specs.Read.{finding_of, named_call_of, breach_of, database_at, said_of, past_of, request_of, path_by, path_of, prints_of, answer_of, maybe, mode_by, mode_of, all_kept, node_of, first_format, state_of, maybe_state}
-use Rattle.homeo_lines.specs.Written.{Field, members_of, object_of, count_data, maybe_data, finding_data, named_call_fields, breach_fields, breach_data, said_fields, said_data, past_fields, past_data, path_fields, answer_fields, given_fields, given_data, request_fields, request_data, mode_name, closing_fields, site_fields, state_fields, state_data, type_fields, body_data, line_json}
+use Rattle.homeo_lines.specs.Read.{named_call_of, breach_of, database_at, said_of, past_of, request_of, path_of, prints_of, answer_of, maybe, mode_by, mode_of, all_kept, node_of, state_of, maybe_state}
+use Rattle.homeo_lines.specs.Written.{Field, object_of, count_data, maybe_data, named_call_fields, breach_fields, breach_data, said_fields, said_data, past_data, path_fields, given_fields, given_data, request_fields, request_data, mode_name, state_data, type_fields, line_json}
 use Rattle.homeo_lines.specs.Written.{breach_of as by_of}
 use Rattle.homeo_plan.proofs.Covering.{each_map}
-use Rattle.homeo_lines.proofs.ReadBack.{Becomes, stays, deeper, null_stays, list_becomes, settled, FieldsBecome, no_fields, more_fields, object_becomes, count_stays, number_is, small_is, values_are, list_is, finding_stays, finding_is, named_call_is, breach_is, breach_stays, database_is, said_is, deltas_stay, said_stays, settled_said, said_got, past_is, past_stays, line_with, line_becomes}
+use Rattle.homeo_lines.proofs.ReadBack.{Becomes, stays, deeper, null_stays, list_becomes, settled, FieldsBecome, no_fields, more_fields, object_becomes, count_stays, number_is, small_is, list_is, finding_stays, finding_is, named_call_is, breach_is, breach_stays, database_is, said_is, deltas_stay, said_stays, settled_said, said_got, past_is, past_stays, line_with, line_becomes}
 
 -- ---- what may be missing
 maybe_becomes : {A : Type 0} (n : ℕ) (f g : A → Data) (o : Option A) → IfSome o (λ x. Becomes n (f x) (g x)) → Becomes n (maybe_data f o) (maybe_data g o)
@@ -92,6 +93,11 @@ module _ (w : s.Workload) (names : AreNamed w) where
   abbrev seen_answer : l.Answer → Data
   seen_answer a = settled (given_fields w a)
 
+  prints_stay : (ns : List ℤ) → Each IsWord ns → Becomes 1 (wholes_data ns) (wholes_data ns)
+  prints_stay ns h =
+      list_becomes 0 whole_data whole_data ns
+      (each_map IsWord (λ n. Becomes 0 (whole_data n) (whole_data n)) (λ n small. stays 0 0 (whole_data n) (omega arith) (plain_whole n small)) ns h)
+
   path_stays : (p : Path) → IsSmallPath p → FieldsBecome 1 (path_fields p) (path_fields p)
   path_stays (Local place) h =
       more_fields 1 (codes "path") _ _ _ _ refl (stays 0 1 _ (omega arith) (plain_string (codes "local") (IsUtf8-are_ascii _ refl)))
@@ -105,7 +111,7 @@ module _ (w : s.Workload) (names : AreNamed w) where
       object_becomes 1 _ _
       (more_fields 1 (codes "msg_id") _ _ _ _ refl (count_here 1 a.number h.number)
       (named_stays 1 site a.call _ _ h.call
-      (more_fields 1 (codes "prints") _ _ _ _ refl (deltas_stay w names a.prints h.prints)
+      (more_fields 1 (codes "prints") _ _ _ _ refl (prints_stay a.prints h.prints)
       (more_fields 1 (codes "round") _ _ _ _ refl (count_here 1 a.round h.round) (path_stays a.path h.path)))))
 
   -- what an answer's value has
@@ -142,10 +148,16 @@ module _ (w : s.Workload) (names : AreNamed w) where
         of_path = ap (option_map Closing) (finding_is broken h);
       }
 
-  prints_are : (d : Data) (ns : List ℤ) → Each IsValue ns → get (codes "prints") d ≡ Some (wholes_data ns) → prints_of d ≡ Some ns
+  print_is : (n : ℤ) → IsWord n → printed (whole_data n) ≡ Some n
+  print_is (pos n) h =
+      let high = h.high in
+      ap (λ b. if b then Some (pos n) else None) (lt-ltb n (2 ^ 63) (grind (arith, ints, high)))
+  print_is (negsuc n) h = refl
+
+  prints_are : (d : Data) (ns : List ℤ) → Each IsWord ns → get (codes "prints") d ≡ Some (wholes_data ns) → prints_of d ≡ Some ns
   prints_are d ns h e =
-      ap (λ o. option_and_then (each value_of) (option_and_then list o)) e
-      ∙ ap (option_and_then (each value_of)) (list_is (map whole_data ns)) ∙ values_are 0 ns h
+      ap (λ o. option_and_then (each printed) (option_and_then list o)) e
+      ∙ ap (option_and_then (each printed)) (list_is (map whole_data ns)) ∙ each_is IsWord printed whole_data print_is 0 ns h
 
   answer_is : (site : ℕ) (a : l.Answer) → IsSmallAnswer w site a → answer_of w site (seen_answer a) ≡ Some a
   answer_is site a h =

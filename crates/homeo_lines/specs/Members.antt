@@ -30,6 +30,10 @@ kept n = if int_le (neg_ℤ (pos 10000000000000)) n && int_le n (pos 10000000000
 abbrev pub value_of : Data → Option ℤ
 value_of d = option_and_then kept (option_and_then as_i64 (as_number d))
 
+-- a number that a call printed
+abbrev pub printed : Data → Option ℤ
+printed d = option_and_then as_i64 (as_number d)
+
 -- ---- members
 abbrev pub text_at : List ℕ → Data → Option (List ℕ)
 text_at key d = option_and_then as_str (get key d)

@@ -20,7 +20,7 @@ use Rattle.homeo_desk.specs.declared.output.Request.{Request}
 use Rattle.homeo_print.specs.Names.{object_names}
 use Rattle.homeo_certificate.specs.Text.{IsJsonOf}
 use Rattle.homeo_lines.specs.Lines as l
-use Rattle.homeo_lines.specs.Members.{list, whole, integer, below, value_of, text_at, list_at, number_at, small_at, each, each_from}
+use Rattle.homeo_lines.specs.Members.{list, whole, integer, below, value_of, printed, text_at, list_at, number_at, small_at, each, each_from}
 use Rattle.homeo_lines.specs.Named.{client_called, call_at, listed_of}
 
 -- ---- calls and findings
@@ -112,7 +112,7 @@ abbrev pub path_of : Data → Option Path
 path_of d = option_and_then (path_by d) (text_at (codes "path") d)
 
 abbrev pub prints_of : Data → Option (List ℤ)
-prints_of d = option_and_then (each value_of) (list_at (codes "prints") d)
+prints_of d = option_and_then (each printed) (list_at (codes "prints") d)
 
 abbrev pub answer_of : s.Workload → ℕ → Data → Option l.Answer
 answer_of w site d =

@@ -85,7 +85,7 @@ IsSmallPath (Closing broken) = IsSmallFinding broken
 pub record IsSmallAnswer (w : s.Workload) (site : ℕ) (a : l.Answer) : Type 0 where
   pub number : a.number < 2 ^ 53
   pub call : IsSmallCall w site a.call
-  pub prints : Each IsValue a.prints
+  pub prints : Each IsWord a.prints
   pub round : a.round < 2 ^ 53
   pub path : IsSmallPath a.path
 

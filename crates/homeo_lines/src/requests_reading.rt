@@ -6,13 +6,13 @@ ghost use Rattle.serde_json.specs.View.{view};
 ghost use Rattle.homeo_syntax.specs.SourceView.{plain_workload};
 ghost use Rattle.homeo_lines.specs.LineView.{plain_answer};
 ghost use Rattle.homeo_lines.specs.Members.{list_at, each};
-ghost use Rattle.homeo_lines.specs.Read.{request_of, path_of, answer_of};
+ghost use Rattle.homeo_lines.specs.Read.{request_of, path_of, prints_of, answer_of};
 
 use crate::catalogue::Catalogue;
-use crate::members::{list, number, text, values_at};
+use crate::members::{list, number, text};
 use crate::packets::{read_finding, read_named_call};
 use homeo_desk::{Answer, Path, Request};
-use homeo_syntax::{Memory, Text};
+use homeo_syntax::{List, Memory, Prints, Text};
 use serde_json::Value;
 use std::alloc::Global;
 
@@ -104,7 +104,7 @@ fn read_answer(
     let Some(path) = read_path(value) else {
         return Ok(None);
     };
-    match values_at(alloc, value, "prints")? {
+    match read_prints(alloc, value)? {
         Some(prints) => Ok(Some(Answer {
             number: asked,
             call,
@@ -114,6 +114,23 @@ fn read_answer(
         })),
         None => Ok(None),
     }
+}
+
+/// What a call printed: numbers of 64 bits, which may be larger than those of databases.
+fn read_prints(alloc: Global, value: &Value) -> Result<Option<Prints>, Memory>
+    ensures { IfOk result (λ o. option_map (λ l. l.items) o ≡ prints_of (view value.now)) }
+{
+    let Some(items) = list(value, "prints") else {
+        return Ok(None);
+    };
+    let mut prints = Vec::new(alloc);
+    for item in items {
+        match item.as_i64() {
+            Some(n) => prints.push(n)?,
+            None => return Ok(None),
+        }
+    }
+    Ok(Some(List::from_vec(prints)))
 }
 
 fn read_path(value: &Value) -> Option<Path>

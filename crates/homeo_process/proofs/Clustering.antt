@@ -6,7 +6,6 @@ use Rattle.std.specs.Prelude.{All, IfSome, slice_get}
 use Rattle.std.specs.List.{range_with_len}
 use Rattle.std.proofs.lemmas.List.{map-set, set-get_or}
 use Rattle.std.proofs.lemmas.List.Elements.{All-cons, All-nil}
-use Rattle.homeo_syntax.specs.Source as s
 use Rattle.homeo_syntax.specs.SourceView.{plain_workload}
 use Rattle.homeo_syntax.specs.declared.workload.Workload.{Workload}
 use Rattle.homeo_meaning.specs.declared.call.CallId.{CallId}
@@ -27,9 +26,9 @@ use Rattle.homeo_desk.specs.declared.output.Request.{Request}
 use Rattle.homeo_desk.specs.declared.output.Why.TheVariants as why
 use Rattle.homeo_desk.specs.DeskView.{DeskValue, calls_of}
 use Rattle.homeo_desk.specs.Moves.{IsMove}
-use Rattle.homeo_desk.specs.Outputs.{AreIn, Gives, Given, packets_of, answers_of}
+use Rattle.homeo_desk.specs.Outputs.{AreIn, Gives, packets_of, answers_of}
 use Rattle.homeo_desk.specs.Requests.{Standing, Answered, Waits, Late, Full, New, Replies, taken_on, standing}
-use Rattle.homeo_desk.specs.Runs.{Told, Desks, IsRun, begin, go_on, first_told, first_desks}
+use Rattle.homeo_desk.specs.Runs.{Told, Desks, IsRun, begin, go_on}
 use Rattle.homeo_desk.specs.Runs as r
 use Rattle.homeo_desk.proofs.Giving.{in_nothing, gives_nothing, gives_put}
 use Rattle.homeo_desk.proofs.Moving.{stays}
@@ -38,10 +37,9 @@ use Rattle.homeo_lines.specs.Lines as l
 use Rattle.homeo_lines.specs.Read.{no_line, malformed, unlisted}
 use Rattle.homeo_process.specs.Cluster as c
 use Rattle.homeo_process.specs.Cluster.{asked_outputs, sent_outputs, served_outputs, done_outputs, outputs_of, packets_meant, Place, Cluster, first_place, first_cluster, last_desk, TakesLine, Restarts, HaveRun}
-use Rattle.homeo_process.specs.Driven.{Driven, sender, before_all}
+use Rattle.homeo_process.specs.Driven.{Driven, sender}
 use Rattle.homeo_process.specs.Laws.{desks_of, LinesAreEvents, LinesTellOneHistory}
-use Rattle.homeo_process.specs.Taking as t
-use Rattle.homeo_process.specs.Taking.{Fails, with_desk, Answers, Asks, IsOwn, Moves, Takes, Begins, Starts, Serves, Waits as Idles, Does, IsTaken, long, no_json, json, not_begun}
+use Rattle.homeo_process.specs.Taking.{Fails, Answers, Asks, IsOwn, Moves, Takes, Serves, Waits as Idles, Does, IsTaken, long, no_json, json}
 
 -- ---- a line is a move
 -- the desk moves by requests of its own clients and by these packets

@@ -1,6 +1,6 @@
 -- Nodes of one workload, one of each site, that take lines (this project's rule).
 use Rattle.std.proofs.Common.{inl, inr}
-use Rattle.std.specs.Prelude.{◌≡◌, ◌⊎◌, ℕ, List, [], ◌∷◌, ◌++◌, map, Option, Some, None, IfSome, slice_get, slice_set}
+use Rattle.std.specs.Prelude.{◌≡◌, ℕ, List, [], ◌∷◌, ◌++◌, map, Option, Some, None, IfSome, slice_get, slice_set}
 use Rattle.std.specs.List.{range_with_len}
 use Rattle.homeo_syntax.specs.SourceView.{plain_workload}
 use Rattle.homeo_syntax.specs.declared.workload.Workload.{Workload}
@@ -11,7 +11,7 @@ use Rattle.homeo_nodes.specs.Nodes.{of_past}
 use Rattle.homeo_desk.specs.declared.output.Output.{Output}
 use Rattle.homeo_desk.specs.DeskView.{DeskValue}
 use Rattle.homeo_desk.specs.Outputs.{AreIn, packets_of, answers_of}
-use Rattle.homeo_desk.specs.Runs.{Told, Desks, first_told}
+use Rattle.homeo_desk.specs.Runs.{Told, first_told}
 use Rattle.homeo_lines.specs.Lines as l
 use Rattle.homeo_lines.specs.Read.{IsReadAs, no_line}
 use Rattle.homeo_process.specs.Driven.{Driven, before_all, sender}
