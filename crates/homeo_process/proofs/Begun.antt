@@ -77,10 +77,13 @@ module _ (x : Driven) (v : Voice) (same : v ≡ voice_of x) (node : List ℕ) (n
   not_begun none = record {
     written = said.written;
     are = said.are;
-    is = inr (record {
-      same = refl;
-      complains = subst (λ u. Complains u from number malformed said.written) same (subst (λ k. Complains v from number k said.written) is said.is);
-    }, none);
+    is = inr (
+      record {
+        same = refl;
+        complains = subst (λ u. Complains u from number malformed said.written) same (subst (λ k. Complains v from number k said.written) is said.is);
+      },
+      none,
+    );
   }
 
   pub no_names : ((site : ℕ) → AreNames (plain_workload x.work) node given site → ⊥) → Appends (Starts x node nodes state from number x) old new
