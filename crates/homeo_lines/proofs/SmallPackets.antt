@@ -1,9 +1,9 @@
--- What nodes of an accepted text send has no number that JSON readers lose, but for rounds and for what fails of a treaty.
+-- What nodes of an accepted text send and keep has no number that JSON readers lose, but for rounds and for what fails of a treaty.
 use Rattle.homeo_meaning.specs.Key.{definitions as meaning_definitions}
 use Rattle.homeo_plan.specs.Key.{definitions as plan_definitions}
 use Rattle.homeo_nodes.specs.Key.{definitions}
 use Rattle.std.proofs.Common.{◌≡◌, ℕ, suc, ◌+◌, ◌<◌, ◌≤◌, ◌^◌, nat_lt, ◌==◌, ◌&&◌, not, cond, Bool, true, false, List, [], ◌∷◌, ◌++◌, length, ℤ, pos, ◌+ℤ◌, Option, Some, None, refl, ◌∙◌, subst, arith, slice_index_or}
-use Rattle.std.specs.Prelude.{slice_get, is_some, Contains}
+use Rattle.std.specs.Prelude.{slice_get, is_some, Contains, IfSome}
 use Rattle.std.specs.Int.RustNames.{unsigned_abs}
 use Rattle.std.proofs.lemmas.Int.{ints}
 use mathlib.Core.Logic.{⊎_elim}
@@ -25,22 +25,28 @@ use Rattle.std.proofs.lemmas.Option.{slice_get_within}
 use Rattle.homeo_site.specs.SiteState.{SiteState, SiteHolds, step_finding}
 use Rattle.homeo_site.proofs.Limits.{few_sites}
 use Rattle.homeo_nodes.specs.declared.breach.Breach.{Breach}
+use Rattle.homeo_nodes.specs.declared.breach.Mode.{Mode}
+use Rattle.homeo_nodes.specs.declared.breach.Mode.TheVariants.{Running, Waiting, Stopped}
 use Rattle.homeo_nodes.specs.Nodes.{Said, Past, Packet, Want, Stop, State, round_of, Node, Reaction, Input, Asked, Served, Came, Withdrew, Ticked, is_running, is_stopped, is_arbiter, has_state, tried, served_by, most_waiting, taken, received, withdrawing, withdrawn, reaction, World, Event, At, place_of, reacts, happens_at, happens, at_start, after, reached}
+use Rattle.homeo_nodes.specs.Small.{small}
 use Rattle.homeo_nodes.proofs.Carrying.{AreAt}
 use Rattle.homeo_nodes.proofs.Happening.{IsHeld, event_holds}
 use Rattle.homeo_nodes.proofs.Holding.{node_holds}
 use Rattle.homeo_nodes.proofs.Sending.{Sent, sent_cases, sent_one}
 use Rattle.homeo_nodes.proofs.Settling.{Holds}
-use Rattle.homeo_nodes.proofs.Standing.{reached_holds, sent}
-use Rattle.homeo_nodes.proofs.Talking.{Since}
+use Rattle.homeo_nodes.proofs.Standing.{reached_holds, sent, contains}
+use Rattle.homeo_nodes.proofs.Talking.{Hears, Since}
 use Rattle.homeo_nodes.proofs.Ticking.{resent_sent}
 use Rattle.homeo_report.proofs.CanReport.{length_object_bounds}
-use Rattle.homeo_lines.specs.SmallNumbers.{IsSmallCall, IsSmallFinding, IsSmallBreach, IsSmallSaid, IsSmallState, IsSmall, AllSmall, IsSmallPast, IsValue, AreValues, IsSmallFound}
+use Rattle.homeo_lines.specs.SmallNumbers.{IsSmallCall, IsSmallFinding, IsSmallBreach, IsSmallSaid, IsSmallState, IsSmall, AllSmall, IsSmallPast, IsValue, AreValues, IsSmallFound, IsSmallMode, AllKept, IsSmallNode}
 use Rattle.homeo_lines.proofs.AcceptedNames.{call_small}
 
 -- ---- the deltas of a site
 difference_small : (base delta : ℤ) → unsigned_abs base ≤ most → unsigned_abs (base +ℤ delta) ≤ most → IsValue delta
 difference_small base delta h k = record { low = grind (arith, ints, h, k); high = grind (arith, ints, h, k) }
+
+value_small : (v : ℤ) → unsigned_abs v ≤ most → IsValue v
+value_small v h = record { low = grind (arith, ints, h); high = grind (arith, ints, h) }
 
 each_value : (ns : List ℤ) → ((n : ℕ) → IsValue (slice_index_or ns n (pos 0))) → Each IsValue ns
 unfolding plan_definitions
@@ -62,6 +68,13 @@ module _ (w : s.Workload) (accepted : IsAccepted w) where
     values = each_value x.deltas (λ n.
         difference_small (values_of x.base n) (values_of x.deltas n) (within_most n (values_of x.base n) (all_within (schema_of w) x.base h.within n))
         (within_most n (values_of x.base n +ℤ values_of x.deltas n) (both n)));
+  }
+
+  base_values : (x : SiteState) → SiteHolds w x → AreValues w x.base
+  unfolding meaning_definitions
+  base_values x h = record {
+    all = length_in (all_bounds (schema_of w)) x.base h.within ∙ length_object_bounds w;
+    values = each_value x.base (λ n. value_small (values_of x.base n) (within_most n (values_of x.base n) (all_within (schema_of w) x.base h.within n)));
   }
 
   -- ---- what is sent
@@ -213,3 +226,54 @@ module _ (w : s.Workload) (accepted : IsAccepted w) where
           sites = was.count;
           states = all_small p.breach.round 0 p.states round (λ m said e. subst (λ j. Sent x.packets (State p.breach.round j said)) (let f : m ≡ 0 + m = omega arith in f) (was.states m said e));
         }
+
+    -- ---- what a node keeps, where all that was sent is small
+    module _ (all : (p : Packet) → Contains x.packets p → (round_of p < 2 ^ 53) × IsSmallFound p) (i : ℕ) (n : Node) (here : slice_get x.nodes i ≡ Some n) (round : n.journal.site.round < 2 ^ 53) where
+      hears : Hears w x.packets i n
+      hears = held.talk.nodes i n here
+
+      sent_is : (p : Packet) → Sent x.packets p → IsSmall w p
+      sent_is p at = let h = all p (contains x.packets p at) in packet_small p at h.0 h.1
+
+      mode_is : (m : Mode) → n.mode ≡ m → IsSmallMode w m
+      mode_is Running e = tt
+      mode_is (Waiting b) e = sent_is (Want b) (hears.waiting b e)
+      mode_is (Stopped b) e = sent_is (Stop b) (hears.stopped b e).0
+
+      decided_is : (o : Option Breach) → n.decided ≡ o → IfSome o (IsSmallBreach w)
+      decided_is None e = tt
+      decided_is (Some b) e = sent_is (Stop b) (hears.chosen b e)
+
+      kept_are : (k : ℕ) (states : List (Option Said)) → ((m : ℕ) (said : Said) → slice_get states m ≡ Some (Some said) → Sent x.packets (State n.journal.site.round (k + m) said)) → AllKept w k states
+      kept_are k [] at = tt
+      kept_are k (None ∷ states) at =
+          (tt, kept_are (suc k) states (λ m other e. subst (λ j. Sent x.packets (State n.journal.site.round j other)) (let f : k + suc m ≡ suc k + m = omega arith in f) (at (suc m) other e)))
+      kept_are k (Some said ∷ states) at = (
+        said_small n.journal.site.round k said (subst (λ j. Sent x.packets (State n.journal.site.round j said)) (let e : k + 0 ≡ k = omega arith in e) (at 0 said refl)) round,
+        kept_are (suc k) states (λ m other e. subst (λ j. Sent x.packets (State n.journal.site.round j other)) (let f : k + suc m ≡ suc k + m = omega arith in f) (at (suc m) other e)),
+      )
+
+      past_is : (o : Option Past) → n.past ≡ o → IfSome o (IsSmallPast w)
+      past_is None e = tt
+      past_is (Some p) e =
+          let h = all (Stop p.breach) (contains x.packets (Stop p.breach) (hears.turned p e).stop) in past_small i n p here e h.0 h.1
+
+      pub node_small : IsSmallNode w (small n)
+      unfolding definitions meaning_definitions
+      node_small =
+          let h = node_holds w x.nodes x.packets accepted held i n here in
+          let lt = slice_get_within x.nodes i n here in
+          let count = held.talk.count in
+          let few = few_sites w accepted in
+          let same = hears.numbered in
+          record {
+            number = omega (arith, lt, count, few, same);
+            round = round;
+            base = base_values n.journal.site h.site;
+            deltas = site_values n.journal.site h.site h.within;
+            mode = mode_is n.mode refl;
+            decided = decided_is n.decided refl;
+            sites = hears.count;
+            states = kept_are 0 n.states (λ m said e. subst (λ j. Sent x.packets (State n.journal.site.round j said)) (let f : m ≡ 0 + m = omega arith in f) (hears.kept m said e));
+            past = past_is n.past refl;
+          }

@@ -7,11 +7,12 @@ use Rattle.homeo_meaning.specs.declared.call.CallId.{CallId}
 use Rattle.homeo_meaning.specs.Acceptance.{IsAccepted}
 use Rattle.homeo_history.specs.Legal.{IsCallAt}
 use Rattle.homeo_nodes.specs.Nodes.{Past, Packet, round_of, Node, Event, reached}
+use Rattle.homeo_nodes.specs.Small.{small}
 use Rattle.homeo_certificate.specs.Text.{IsJsonOf}
 use Rattle.homeo_lines.specs.Lines as l
 use Rattle.homeo_lines.specs.Read.{maybe_state, IsReadAs}
 use Rattle.homeo_lines.specs.Written.{line_json}
-use Rattle.homeo_lines.specs.SmallNumbers.{AreNamed, IsSmallCall, IsSmallFinding, IsSmall, IsSmallPast, IsSmallDesk, IsSmallFound}
+use Rattle.homeo_lines.specs.SmallNumbers.{AreNamed, IsSmallCall, IsSmallFinding, IsSmall, IsSmallPast, IsSmallNode, IsSmallDesk, IsSmallFound}
 
 -- ---- in accepted texts
 abbrev pub AcceptedAreNamed : Type 0
@@ -32,6 +33,13 @@ abbrev pub PastsAreSmall : Type 0
 PastsAreSmall =
     (w : s.Workload) (events : List Event) (i : ℕ) (n : Node) (p : Past) → IsAccepted w → slice_get (reached w events).nodes i ≡ Some n →
     n.past ≡ Some p → p.breach.round < 2 ^ 53 → IsSmallFinding p.breach.broken → IsSmallPast w p
+
+-- and what a node is in such a round, where all that was sent is of such ones
+abbrev pub NodesAreSmall : Type 0
+NodesAreSmall =
+    (w : s.Workload) (events : List Event) (i : ℕ) (n : Node) → IsAccepted w → slice_get (reached w events).nodes i ≡ Some n →
+    n.journal.site.round < 2 ^ 53 →
+    ((p : Packet) → Contains (reached w events).packets p → (round_of p < 2 ^ 53) × IsSmallFound p) → IsSmallNode w (small n)
 
 -- ---- what is read back
 abbrev pub IsText : Option (List ℕ) → Type 0

@@ -1,6 +1,6 @@
 //! What is true of all lines.
 
-ghost use Rattle.homeo_lines.specs.Laws.{AcceptedAreNamed, CallsAreSmall, PacketsReadBack, PastsAreSmall, PastsReadBack, SentAreSmall, StatesReadBack};
+ghost use Rattle.homeo_lines.specs.Laws.{AcceptedAreNamed, CallsAreSmall, NodesAreSmall, PacketsReadBack, PastsAreSmall, PastsReadBack, SentAreSmall, StatesReadBack};
 
 /// A packet that is written is read back as that packet.
 pub fn packets_read_back()
@@ -36,4 +36,9 @@ pub fn sent_packets_are_small()
 /// How a node of an accepted text has closed a round has only such numbers too.
 pub fn pasts_are_small()
     ensures { PastsAreSmall }
+{}
+
+/// So has a node of an accepted text, where all that was sent has.
+pub fn nodes_are_small()
+    ensures { NodesAreSmall }
 {}
