@@ -1,5 +1,5 @@
 -- How a node begins, put together.
-use Rattle.std.proofs.Common.{◌≡◌, ℕ, List, map, length, Option, None, Some, is_some, Result, Ok, Err, true, true≢false, inr, refl, sym, ap, subst, ◌∙◌}
+use Rattle.std.proofs.Common.{◌≡◌, ℕ, List, map, Option, None, Some, is_some, Result, Ok, Err, true, true≢false, inr, refl, sym, ap, subst, ◌∙◌}
 use Rattle.std.specs.Prelude.{All, option_map, IfOk, IfSome}
 use Rattle.std.proofs.lemmas.List.Elements.{All-map}
 use Rattle.homeo_syntax.specs.Source as s
@@ -10,7 +10,6 @@ use Rattle.homeo_history.specs.Legal.{IsCallAt}
 use Rattle.std.proofs.lemmas.Simd.{map-map}
 use Rattle.homeo_desk.specs.DeskView as d
 use Rattle.homeo_desk.specs.DeskView.{DeskValue, Reply, desk_of, last_answers, no_answers, plain_reply}
-use Rattle.homeo_desk.specs.declared.output.Answer.{Answer}
 use Rattle.homeo_desk.specs.declared.state.DeskState.{DeskState}
 use Rattle.homeo_desk.proofs.Keeping.{all_unmapped}
 use Rattle.homeo_live.specs.LiveView.{plain_node, IsReached}

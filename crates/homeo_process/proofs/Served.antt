@@ -1,20 +1,16 @@
 -- What a node that has begun does with a message, put together.
-use Rattle.std.proofs.Common.{◌≡◌, ◌⊎◌, ℕ, Bool, true, false, List, [], ◌∷◌, ◌++◌, Option, None, Some, is_some, refl, sym, ap, subst, inl, inr, append-nil, append_assoc, true≢false, ◌∙◌}
+use Rattle.std.proofs.Common.{◌≡◌, ℕ, true, List, [], ◌++◌, Option, None, Some, is_some, refl, sym, subst, true≢false, ◌∙◌}
 use Rattle.homeo_syntax.specs.SourceView.{plain_workload}
-use Rattle.homeo_syntax.specs.declared.workload.Workload.{Workload}
-use Rattle.homeo_meaning.specs.declared.call.CallId.{CallId}
 use Rattle.homeo_nodes.specs.Nodes as n
 use Rattle.homeo_desk.specs.DeskView as d
 use Rattle.homeo_desk.specs.DeskView.{DeskValue, desk_of}
 use Rattle.homeo_desk.specs.Moves.{IsMove}
-use Rattle.homeo_desk.specs.Requests.{Replies, standing}
 use Rattle.homeo_desk.specs.declared.output.Output.{Output}
-use Rattle.homeo_desk.specs.declared.output.Request.{Request}
 use Rattle.homeo_desk.specs.declared.state.DeskState.{DeskState}
 use Rattle.homeo_lines.specs.Lines as l
 use Rattle.homeo_lines.specs.LineView.{plain_state}
 use Rattle.homeo_lines.specs.Read.{malformed}
-use Rattle.homeo_process.specs.Driven.{Voice, line_to, lines_of}
+use Rattle.homeo_process.specs.Driven.{Voice, line_to}
 use Rattle.homeo_process.specs.Taking.{Complains, Fails, Moves, Takes}
 use Rattle.homeo_process.specs.inner.Voices.{Appends, IsTold, IsServed, begun}
 use Rattle.homeo_process.proofs.Begun.{desk_is, can_begin}

@@ -1,5 +1,5 @@
 -- A node that lines drive, and the lines that it gives (this project's rule).
-use Rattle.std.specs.Prelude.{◌≡◌, ℕ, suc, List, [], ◌∷◌, ◌++◌, take, drop, codes, Option, None, Some, slice_get}
+use Rattle.std.specs.Prelude.{ℕ, suc, List, [], ◌++◌, take, drop, codes, Option, None, Some, slice_get}
 use Rattle.std.specs.List.{flat_map}
 use Rattle.std.specs.Option.{option_and_then}
 use Rattle.std.specs.Str.{bytes_eq}
