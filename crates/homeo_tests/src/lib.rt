@@ -1,7 +1,7 @@
 //! Tests of whole runs of the top call, over sources and sinks in memory, of the calls of small workloads one by one, also by
 //! their L forms, and of words and streams; of sites, of clients side by side, under gates that hold calls until others are inside,
 //! of what is told of their runs, and of what is reached beyond one run: sessions over streams, nodes that send each other packets, in one program or each by itself,
-//! certificates, and forecasts.
+//! and certificates.
 #![tactic(auto)]
 
 #[cfg(test)]
@@ -17,13 +17,9 @@ mod effects;
 #[cfg(test)]
 mod faults;
 #[cfg(test)]
-mod forecasts;
-#[cfg(test)]
 mod forms;
 #[cfg(test)]
 mod gates;
-#[cfg(test)]
-mod live_rounds;
 #[cfg(test)]
 mod lives;
 #[cfg(test)]

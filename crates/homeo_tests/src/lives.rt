@@ -22,7 +22,7 @@ const BROKEN: Broken = Broken {
 };
 
 /// The node of a site, where two clients at two sites buy from a stock of five.
-pub(crate) fn node_of(rt: &impl Abort, alloc: Global, site: u32) -> LiveNode {
+fn node_of(rt: &impl Abort, alloc: Global, site: u32) -> LiveNode {
     let text = shop(rt, alloc, THREE_AND_ONE);
     let c: Arc<Compiled> = compiled(rt, alloc, text.as_str());
     if site >= site_count(c.workload()) {
@@ -31,17 +31,11 @@ pub(crate) fn node_of(rt: &impl Abort, alloc: Global, site: u32) -> LiveNode {
     LiveNode::begin(alloc, c, site).expect(rt, "memory")
 }
 
-/// Takes on a call of the client at a node, for the first time or again, and goes on with what waits.
-pub(crate) fn buy(
-    rt: &impl Abort,
-    alloc: Global,
-    node: &mut LiveNode,
-    seq: u64,
-    sent: &mut List<Packet>,
-) -> Step {
+/// Takes on the first call of a client, for the first time or again, and goes on with what waits.
+fn buy(rt: &impl Abort, alloc: Global, node: &mut LiveNode, sent: &mut List<Packet>) -> Step {
     let call = CallId {
         client: node.number(),
-        seq,
+        seq: 1,
     };
     if !node.can_ask(call) {
         panic!(rt; "a listed call");
@@ -52,24 +46,11 @@ pub(crate) fn buy(
     }
 }
 
-/// What a call breaks of the treaty of its site, as the node asks that the call close the round.
-pub(crate) fn breach_of(rt: &impl Abort, alloc: Global, node: &mut LiveNode, seq: u64) -> Breach {
-    let mut sent = List::new(alloc);
-    match buy(rt, alloc, node, seq, &mut sent) {
-        Step::Wanted(broken) => assert!(rt; broken == BROKEN),
-        _ => panic!(rt; "a call that breaks the treaty"),
-    }
-    match sent.as_slice() {
-        [Packet::Want(breach)] => *breach,
-        _ => panic!(rt; "one want"),
-    }
-}
-
 /// Two purchases are made alone, and the third breaks the treaty.
 fn buy_until_it_breaks(rt: &impl Abort, alloc: Global, node: &mut LiveNode) -> Breach {
     let mut sent = List::new(alloc);
     for _ in 0..2 {
-        match buy(rt, alloc, node, 1, &mut sent) {
+        match buy(rt, alloc, node, &mut sent) {
             Step::Kept(call, prints) => {
                 same(rt, &call.seq, &1);
                 same_items(rt, prints.as_slice(), [1].as_slice());
@@ -77,7 +58,14 @@ fn buy_until_it_breaks(rt: &impl Abort, alloc: Global, node: &mut LiveNode) -> B
             _ => panic!(rt; "a call that keeps the treaty"),
         }
     }
-    breach_of(rt, alloc, node, 1)
+    match buy(rt, alloc, node, &mut sent) {
+        Step::Wanted(broken) => assert!(rt; broken == BROKEN),
+        _ => panic!(rt; "a call that breaks the treaty"),
+    }
+    match sent.as_slice() {
+        [Packet::Want(breach)] => *breach,
+        _ => panic!(rt; "one want"),
+    }
 }
 
 /// The node that begins again at the state of another, which is lost.
@@ -91,7 +79,7 @@ fn again(rt: &impl Abort, alloc: Global, node: LiveNode) -> LiveNode {
 }
 
 /// What a packet that was sent came to, and what was sent for it.
-pub(crate) fn deliver(
+fn deliver(
     rt: &impl Abort,
     alloc: Global,
     node: &mut LiveNode,
@@ -103,7 +91,7 @@ pub(crate) fn deliver(
 }
 
 /// Stops a node by a call, and gives what it says.
-pub(crate) fn stop(rt: &impl Abort, alloc: Global, node: &mut LiveNode, breach: Breach) -> Packet {
+fn stop(rt: &impl Abort, alloc: Global, node: &mut LiveNode, breach: Breach) -> Packet {
     let (step, sent) = deliver(rt, alloc, node, Packet::Stop(breach));
     assert!(rt; matches!(step, Step::Taken));
     let mut packets = sent.into_vec();
@@ -111,12 +99,7 @@ pub(crate) fn stop(rt: &impl Abort, alloc: Global, node: &mut LiveNode, breach: 
 }
 
 /// The one answer of a node that has closed its round.
-pub(crate) fn closed(
-    rt: &impl Abort,
-    alloc: Global,
-    node: &mut LiveNode,
-    packet: Packet,
-) -> Answer {
+fn closed(rt: &impl Abort, alloc: Global, node: &mut LiveNode, packet: Packet) -> Answer {
     let (step, _sent) = deliver(rt, alloc, node, packet);
     match step {
         Step::Closed(answers) => {

@@ -52,7 +52,7 @@ fn entry(rt: &impl Abort, alloc: Global, client: u32, prints: &[i64]) -> Entry {
 }
 
 /// A round of two sites at which no call was made but the closing one.
-pub(crate) fn quiet(rt: &impl Abort, alloc: Global, closing: Option<Closing>) -> Round {
+fn quiet(rt: &impl Abort, alloc: Global, closing: Option<Closing>) -> Round {
     let mut segments = List::new(alloc);
     for _ in 0..2 {
         let entries = List::new(alloc);

@@ -19,7 +19,7 @@ use std::process::Abort;
 use std::sync::Arc;
 
 /// The report of these calls.
-pub(crate) const REPORT: &str = "round 0
+const REPORT: &str = "round 0
 site 0
 a 1 buy(1): 1
 a 2 buy(1): 1
