@@ -5,10 +5,9 @@ ghost use Rattle.homeo_build.specs.Plan.{IsPlanOf};
 
 use crate::same::{same, same_items};
 use crate::shops::compiled;
-use crate::texts::push_list;
 use homeo_build::Compiled;
 use homeo_build::treaties::treaties;
-use homeo_cert::{CertError, certificate};
+use homeo_cert::certificate;
 use homeo_certificate::Verdict;
 use homeo_eval::initial;
 use homeo_plan::{Delta, RoundPlan};
@@ -76,29 +75,4 @@ fn a_verdict_is_the_first_fault(rt: HostRuntime) {
         let told = verdict_on(&rt, rt.alloc(), text.as_bytes());
         same(&rt, &told, &verdict);
     }
-}
-
-/// A call prints 34,600 numbers of 18 digits, and 14 calls differ.
-fn long_text(rt: &impl Abort, alloc: Global) -> String {
-    let head = "workload 1\nsites 1\ntransaction t(n in 1..14) { ";
-    let mut text = String::from_str(alloc, head).expect(rt, "memory");
-    push_list(rt, &mut text, "print(111111111111111111)", 34_599);
-    let calls =
-        " }\nclient a at 0 { t(1); t(2); t(3); t(4); t(5); t(6); t(7); t(8); t(9); t(10); t(11); t(12); t(13); t(14) }\nend\n";
-    text.push_str(calls).expect(rt, "memory");
-    text
-}
-
-/// Each number is written in 37 bytes.
-#[test]
-fn a_certificate_that_is_too_long_is_told_by_its_length(rt: HostRuntime) {
-    let alloc = rt.alloc();
-    let text = long_text(&rt, alloc);
-    let c = compiled(&rt, alloc, text.as_str());
-    let plan = first_plan(&rt, alloc, &c);
-    let refused = certificate(alloc, &c, &plan).err();
-    drop(plan);
-    drop(c);
-    let too_long = CertError::TooLong { bytes: 17_923_399 };
-    same(&rt, &refused, &Some(too_long));
 }
