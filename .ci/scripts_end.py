@@ -71,7 +71,7 @@ def on_terminal(words, folder, environment, until_said, act):
     if not process:
         os.chdir(folder)
         os.execvpe(words[0], words, environment)
-    said, has_acted, end = b"", False, time.monotonic() + 3 * SECONDS
+    said, has_acted, end = b"", False, time.monotonic() + 10 * SECONDS
     while time.monotonic() < end:
         if select.select([terminal], [], [], 0.1)[0]:
             try:

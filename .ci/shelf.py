@@ -28,9 +28,7 @@ PLAIN = {*"(){};,:→×λ⊥=.", "[]", "Type", "tt", "Unit", "record", "let", "i
 VALUES = {"ℕ", "ℤ", "Bool", "Type 0"}
 # Those that are left, by the names of their lemmas, which the lowest crate that has them doesn't show to the others: each would have to be
 # public there, and the crates above proved again.
-LEFT = {"comma_utf8", "no_entries", "no_length", "framed", "at_sites", "runs", "first_small", "first_product_small", "each_there", "no_change"}
-LEFT |= {"zero_small", "each_at", "every_first", "only_again", "none_freeze", "zero_keeps_freezes", "count_least", "count_grows"}
-LEFT |= {"place_least", "place_from-ge", "abs_add", "one_at", "ground_whole"}
+LEFT = {"each_there", "each_at"}
 # Files of proofs/ that have no lemmas for others.
 ANSWERS = {"Lib.antt", "Answers.antt", "Invariants.antt", "Proof.antt"}
 

@@ -7,6 +7,7 @@ more address space than `MOST_MEMORY`, so that it can't exhaust the machine.
 """
 import collections
 import json
+import os
 import pathlib
 import subprocess
 import sys
@@ -68,3 +69,10 @@ def least(command, given, repeats, timeout=TIMEOUT):
 def program_of(path):
     """The program at the path, or where that is None that of $HOMEO, or the built one, which ./homeo builds if need be."""
     return pathlib.Path(path or program.chosen()).resolve()
+
+
+def state():
+    """Which sources these are, on what machine, and how busy it is."""
+    words = ["git", "describe", "--always", "--dirty"]
+    commit = subprocess.run(words, cwd=pathlib.Path(__file__).parent, capture_output=True, text=True).stdout.strip()
+    return f"commit {commit}, {os.cpu_count()} processors with a load of {os.getloadavg()[1]:.1f}"

@@ -41,7 +41,7 @@ use Rattle.homeo_history.proofs.CallRuns.{call_runs, site_is}
 use Rattle.homeo_history.proofs.Choices.{some_choice, some_choice_fits}
 use Rattle.homeo_history.proofs.Folds.{fold_within}
 use Rattle.homeo_history.proofs.Merges.{merge_law}
-use Rattle.homeo_history.proofs.ValueLists.{like_itself}
+use Rattle.homeo_meaning.proofs.ValueLists.{like_itself}
 use Rattle.homeo_round.specs.PlusDeltas.{plus_deltas}
 use Rattle.homeo_round.proofs.Added.{plus_at, plus_length}
 use Rattle.homeo_site.proofs.CallsOfSites.{planned_calls, kept_along}

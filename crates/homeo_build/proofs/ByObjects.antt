@@ -6,18 +6,21 @@ use Rattle.std.proofs.lemmas.List.{map_push, take_all, take_more}
 use Rattle.std.proofs.lemmas.List.Elements.{All-head, All-tail}
 use Rattle.std.proofs.lemmas.Option.{slice_get_within}
 use Rattle.std.proofs.lemmas.List.Folds.{list_any-append}
+use Rattle.std.proofs.lemmas.Simd.{map-map}
 use Rattle.homeo_syntax.specs.Low.{Command}
 use Rattle.homeo_syntax.specs.Source as s
 use Rattle.homeo_meaning.specs.Key.{definitions as meaning_definitions}
 use Rattle.homeo_meaning.specs.Acceptance.{IsAccepted}
 use Rattle.homeo_meaning.specs.Bounds.{IsWithin}
 use Rattle.homeo_meaning.specs.CallForm.{ground_form}
+use Rattle.homeo_meaning.specs.Forms.{HaveForms, AreForms}
 use Rattle.homeo_meaning.specs.Ground.{Ground, plain_ground, grounds}
 use Rattle.homeo_meaning.specs.Schema.{schema_of}
 use Rattle.homeo_meaning.specs.Serial.{values_of}
 use Rattle.homeo_meaning.specs.Small.{IsSmall}
 use Rattle.homeo_meaning.specs.Whole.{IsWhole}
 use Rattle.homeo_meaning.specs.declared.call.GroundCall.{GroundCall}
+use Rattle.homeo_lform.proofs.Wholes.{ground_whole}
 use Rattle.homeo_plan.specs.Key.{definitions as plan_definitions}
 use Rattle.homeo_plan.specs.Each.{Each}
 use Rattle.homeo_plan.specs.FormSizes.{Numbers}
@@ -28,7 +31,6 @@ use Rattle.homeo_plan.specs.Template.{PlannedCall, Clause, Template, atoms_of, n
 use Rattle.homeo_plan.specs.declared.forms.Delta.{Delta}
 use Rattle.homeo_plan.proofs.AtomClauses.{each_from, each_of_sets}
 use Rattle.homeo_plan.proofs.Covering.{each_map}
-use Rattle.homeo_plan.proofs.GroundForms.{ground_whole}
 use Rattle.homeo_follow.specs.Key.{definitions as follow_definitions}
 use Rattle.homeo_follow.specs.Expanded.{expanded}
 use Rattle.homeo_follow.specs.Follow.{object_forms, followed, needed}
@@ -42,8 +44,7 @@ use Rattle.homeo_template.specs.Places.{set_at}
 use Rattle.homeo_template.proofs.Appending.{atoms_push}
 use Rattle.homeo_template.proofs.Slacks.{small-slack}
 use Rattle.homeo_plan.proofs.DeltaLists.{same_deltas, none_in_order, in_order_puts}
-use Rattle.homeo_build.specs.Key.{definitions}
-use Rattle.homeo_build.specs.Forms.{IsCallForm, HaveForms, AreForms}
+use Rattle.homeo_build.specs.inner.CallForms.{IsCallForm}
 use Rattle.homeo_build.specs.declared.frozen.FrozenObjects.{FrozenObjects}
 use Rattle.homeo_build.specs.inner.Frozen.{is_frozen_in, names_object, frozen_from}
 use Rattle.homeo_build.specs.inner.Planning.{CanCompile, CanPlan}
@@ -51,7 +52,7 @@ use Rattle.homeo_build.proofs.FewSites.{sites_few}
 use Rattle.homeo_build.proofs.Following.{atoms_are}
 use Rattle.homeo_build.proofs.FrozenSites.{has_frozen, frozen_in_order}
 use Rattle.homeo_build.proofs.GroundCalls.{can_compile}
-use Rattle.homeo_build.proofs.Grown.{map_map, same_length}
+use Rattle.homeo_build.proofs.Grown.{same_length}
 use Rattle.homeo_build.proofs.Planning.{can_plan}
 
 -- ---- the sets at the places of forms
@@ -64,14 +65,14 @@ module _ (w : s.Workload) (fs : List Command) where
   sets_there :
       (h : Command → List Linear) (gs : List Ground) (ns : List ℕ) → HaveForms w fs gs ns →
       map (set_at (map h fs)) ns ≡ map (λ g. h (ground_form w g)) gs
-  unfolding definitions
+  unfolding meaning_definitions
   sets_there h [] [] e = refl
   sets_there h [] (n ∷ ns) e = absurd e
   sets_there h (g ∷ gs) [] e = absurd e
   sets_there h (g ∷ gs) (n ∷ ns) e = ap₂ ◌∷◌ (set_there h fs n (ground_form w g) e.0) (sets_there h gs ns e.1)
 
   places_below : (m : ℕ) (gs : List Ground) (ns : List ℕ) → length fs ≡ m → HaveForms w fs gs ns → Each (λ n. n < m) ns
-  unfolding definitions plan_definitions
+  unfolding meaning_definitions plan_definitions
   places_below m [] [] l e = tt
   places_below m [] (n ∷ ns) l e = absurd e
   places_below m (g ∷ gs) [] l e = absurd e
@@ -91,7 +92,7 @@ module _
         ap atoms_of_sets
         (ap (map (set_at (map atoms parts))) placed ∙ ap (λ l. map (set_at l) places) are
         ∙ sets_there w fs (asks b) (grounds w) places forms.placed
-        ∙ sym (map_map (planned_call w) (λ (g : PlannedCall). (followed b g.command).atoms) (grounds w)))
+        ∙ sym (map-map (λ (g : PlannedCall). (followed b g.command).atoms) (planned_call w) (grounds w)))
 
     pub places_within : Each (λ n. n < length parts) ps
     places_within =
@@ -211,7 +212,7 @@ module _ (w : s.Workload) (base : List ℤ) (accepted : IsAccepted w) (within : 
       (each_from HasSmallConstant (λ c. IsSmall form_limit c.slack) small-slack []
       (atoms_of_sets (map (atoms_of (sites_of w) (values_of base)) (planned w)))
       (each_of_sets HasSmallConstant (map (atoms_of (sites_of w) (values_of base)) (planned w))
-      (subst (Each HaveSmallConstants) (sym (map_map (planned_call w) (atoms_of (sites_of w) (values_of base)) (grounds w)))
+      (subst (Each HaveSmallConstants) (sym (map-map (atoms_of (sites_of w) (values_of base)) (planned_call w) (grounds w)))
       (each_made (CanCompile w) HaveSmallConstants (λ g. atoms_of (sites_of w) (values_of base) (planned_call w g)) small_call (grounds w)
       (can_compile w accepted))))
       tt)
@@ -303,4 +304,4 @@ module _ (w : s.Workload) (b : ℕ → ℤ) where
   all_frozen calls i f past are so_far x j =
       so_far x j
       ∙ ap (λ l. is_frozen b l x j)
-      (ap (map (call_planned w)) (take_all i calls past) ∙ sym (map_map plain_ground (planned_call w) calls) ∙ ap (map (planned_call w)) are)
+      (ap (map (call_planned w)) (take_all i calls past) ∙ sym (map-map (planned_call w) plain_ground calls) ∙ ap (map (planned_call w)) are)

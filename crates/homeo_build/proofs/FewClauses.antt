@@ -17,12 +17,12 @@ use Rattle.homeo_meaning.specs.LowSizes.{Extent, test_extent, tests_extent, comm
 use Rattle.homeo_meaning.specs.LowSizes as sizes
 use Rattle.homeo_meaning.specs.Serial.{values_of}
 use Rattle.homeo_meaning.specs.Whole.{IsWhole}
+use Rattle.homeo_lform.proofs.Wholes.{ground_whole}
 use Rattle.homeo_plan.specs.Atoms.{true_comparison, false_comparison}
 use Rattle.homeo_plan.specs.Each.{Each}
 use Rattle.homeo_plan.specs.Linear.{Linear, Forms, form, is_empty}
 use Rattle.homeo_plan.specs.Planned.{sites_of, planned_call, planned, template_at}
 use Rattle.homeo_plan.specs.Template.{PlannedCall, atoms_of, Clause, clause_of, same_clause, with_clause, clauses_from, atoms_of_sets}
-use Rattle.homeo_plan.proofs.GroundForms.{ground_whole}
 use Rattle.homeo_plan.proofs.PlannedCalls.{all_sites_below}
 use Rattle.homeo_follow.specs.Expanded.{expanded}
 use Rattle.homeo_follow.specs.Follow.{passes_by, holds_by, passed_test, failed_test, passed, failed, asked, follow, follow_all, object_forms, followed}

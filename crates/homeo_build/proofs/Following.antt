@@ -7,6 +7,7 @@ use Rattle.std.proofs.lemmas.Bool.{and_parts}
 use Rattle.std.proofs.lemmas.Int.{ints}
 use Rattle.std.proofs.lemmas.List.{take_all, length-map}
 use Rattle.std.specs.declared.sync.Arc.{Arc}
+use Rattle.std.proofs.lemmas.Simd.{map-map}
 use Rattle.homeo_lemmas.proofs.Places.{get_map, one_placed}
 use Rattle.homeo_syntax.specs.Low.{Command}
 use Rattle.homeo_syntax.specs.LowView.{plain_lcommand}
@@ -16,11 +17,13 @@ use Rattle.homeo_meaning.specs.Key.{definitions as meaning_definitions}
 use Rattle.homeo_meaning.specs.Acceptance.{IsAccepted}
 use Rattle.homeo_meaning.specs.Bounds.{IsWithin}
 use Rattle.homeo_meaning.specs.CallForm.{ground_form}
+use Rattle.homeo_meaning.specs.Forms.{AreForms}
 use Rattle.homeo_meaning.specs.Ground.{Ground}
 use Rattle.homeo_meaning.specs.Schema.{schema_of}
 use Rattle.homeo_meaning.specs.Serial.{values_of}
 use Rattle.homeo_meaning.specs.Small.{IsSmall}
 use Rattle.homeo_meaning.proofs.Within.{all_within}
+use Rattle.homeo_lform.proofs.Wholes.{ground_whole}
 use Rattle.homeo_plan.specs.Key.{definitions as plan_definitions}
 use Rattle.homeo_plan.specs.Each.{Each}
 use Rattle.homeo_plan.specs.Limit.{form_limit}
@@ -28,7 +31,6 @@ use Rattle.homeo_plan.specs.Linear.{Linear}
 use Rattle.homeo_plan.specs.PlanView.{plain_atoms}
 use Rattle.homeo_plan.specs.Planned.{sites_of, planned_call}
 use Rattle.homeo_plan.specs.Template.{atoms_of}
-use Rattle.homeo_plan.proofs.GroundForms.{ground_whole}
 use Rattle.homeo_plan.proofs.GroundNumbers.{values_small}
 use Rattle.homeo_follow.specs.Key.{definitions as follow_definitions}
 use Rattle.homeo_follow.specs.Brought.{Brought, brought, plain_part}
@@ -42,12 +44,12 @@ use Rattle.homeo_follow.proofs.Staying.{parts_stay}
 use Rattle.homeo_follow.proofs.Unmoved.{parts_rebased}
 use Rattle.homeo_follow.proofs.Weighed.{accepted_small}
 use Rattle.homeo_build.specs.Key.{definitions}
-use Rattle.homeo_build.specs.Forms.{IsCallForm, AreForms}
+use Rattle.homeo_build.specs.inner.CallForms.{IsCallForm}
 use Rattle.homeo_build.specs.Plan.{AreParts}
 use Rattle.homeo_build.specs.inner.Followed.{IsSmallAlong}
 use Rattle.homeo_build.specs.inner.Rebased.{IsRebased, AreRebased}
 use Rattle.homeo_build.proofs.FormsMade.{placed_map}
-use Rattle.homeo_build.proofs.Grown.{same_length, same_place, map_map}
+use Rattle.homeo_build.proofs.Grown.{same_length, same_place}
 
 -- ---- numbers along forms
 each_here : {X Y : Type 0} (P : Y → Type 0) (f : X → Y) (xs : List X) (i : ℕ) (x : X) → Each P (map f xs) → i < length xs → x ≡ get_or xs i x → P (f x)
@@ -121,7 +123,7 @@ pub atoms_each :
     map shared_atoms parts ≡ map (λ f. (followed b f).atoms) fs
 unfolding follow_definitions
 atoms_each b fs parts are =
-    sym (map_map shared_part (λ r. r.atoms) parts) ∙ ap (map (λ (r : Brought). r.atoms)) are ∙ map_map (brought b) (λ r. r.atoms) fs
+    sym (map-map (λ (r : Brought). r.atoms) shared_part parts) ∙ ap (map (λ (r : Brought). r.atoms)) are ∙ map-map (λ r. r.atoms) (brought b) fs
 
 -- what an L form brings, made for each one after another
 abbrev pub lent_brought : (ℕ → ℤ) → LCommand → Brought
@@ -153,7 +155,7 @@ pub parts_all :
     AreParts w base parts
 parts_all w base fs places parts i forms past so_far =
     are_parts w base (map plain_lcommand fs) places forms parts
-    (so_far ∙ ap (map (lent_brought (values_of base))) (take_all i fs past) ∙ sym (map_map plain_lcommand (brought (values_of base)) fs))
+    (so_far ∙ ap (map (lent_brought (values_of base))) (take_all i fs past) ∙ sym (map-map (brought (values_of base)) plain_lcommand fs))
 
 -- what is kept of a part, rebased from one base to another
 abbrev pub shared_moved : {Z : Type 0} → List ℤ → List ℤ → Arc PlanPart Z → Brought
@@ -168,7 +170,7 @@ all_moved last base fs old lent parts i same are past so_far =
     let count = same_length shared_part (brought (values_of last)) lent (map plain_lcommand fs) are in
     let end : length lent ≤ i = omega (arith, count, length-map fs plain_lcommand, past) in
     so_far ∙ ap (map (shared_moved last base)) (take_all i lent end ∙ same)
-    ∙ sym (map_map shared_part (rebased (gains (values_of last) (values_of base))) old)
+    ∙ sym (map-map (rebased (gains (values_of last) (values_of base))) shared_part old)
 
 -- the part of the form at a number, and the objects that the form names
 module _
@@ -180,10 +182,10 @@ module _
     lent_names f = named (plain_lcommand f)
 
     parts_here : map shared_part parts ≡ map (lent_brought b) fs
-    parts_here = are ∙ map_map plain_lcommand (brought b) fs
+    parts_here = are ∙ map-map (brought b) plain_lcommand fs
 
     names_here : map (λ (ns : Vec ℕ N). ns.items) names ≡ map lent_names fs
-    names_here = name ∙ map_map plain_lcommand named fs
+    names_here = name ∙ map-map named plain_lcommand fs
 
     pub part_within : i < length parts
     part_within = omega (arith, within, same_length shared_part (lent_brought b) parts fs parts_here)

@@ -1,10 +1,11 @@
 -- The L forms of ground calls, made once for each transaction with arguments.
-use Rattle.std.proofs.Common.{◌≡◌, ℕ, zero, suc, ◌+◌, ◌<◌, ◌≤◌, Bool, true, false, ◌&&◌, ◌==◌, List, [], ◌∷◌, ◌++◌, map, take, Some, length, get_or, refl, sym, ap, ap₂, subst, ◌∙◌, arith}
+use Rattle.std.proofs.Common.{◌≡◌, All, ℕ, zero, suc, ◌+◌, ◌<◌, ◌≤◌, Bool, true, false, ◌&&◌, ◌==◌, List, [], ◌∷◌, ◌++◌, map, take, Some, length, get_or, refl, sym, ap, ap₂, subst, ◌∙◌, arith}
 use Rattle.std.specs.Prelude.{slice_get, slice_index_or, not, ◌||◌, if◌then◌else◌}
 use Rattle.std.specs.Ordering.{int_eq}
 use Rattle.std.specs.List.{list_any}
 use Rattle.std.specs.Cmp.Lexicographic.{pointwise}
 use Rattle.std.proofs.lemmas.List.{map_push, take_more, take_all, length-map}
+use Rattle.std.proofs.lemmas.List.Elements.{All-head, All-tail}
 use Rattle.std.proofs.lemmas.Option.{slice_get_within}
 use Rattle.homeo_lemmas.proofs.Bools.{and_first, and_second}
 use Rattle.homeo_lemmas.proofs.Lists.{numbers_same}
@@ -15,16 +16,19 @@ use Rattle.homeo_syntax.specs.LowView.{plain_lcommand}
 use Rattle.homeo_syntax.specs.Source as s
 use Rattle.homeo_syntax.specs.declared.low.LCommand.{LCommand}
 use Rattle.homeo_meaning.specs.Key.{definitions as meaning_definitions}
+use Rattle.homeo_meaning.specs.Acceptance.{IsAccepted}
 use Rattle.homeo_meaning.specs.CallForm.{body_form, ground_form}
+use Rattle.homeo_meaning.specs.Forms.{CallBody, body_of, body_ground, with_body, bodies_after, call_forms, HaveForms, AreForms}
+use Rattle.homeo_meaning.specs.Forms.{same_body as same_call_body}
 use Rattle.homeo_meaning.specs.Calls.{IsGroundCall}
 use Rattle.homeo_meaning.specs.Ground.{Ground, plain_ground, grounds}
 use Rattle.homeo_meaning.specs.declared.call.GroundCall.{GroundCall}
+use Rattle.homeo_ground.specs.Grounding.{IsCalled}
+use Rattle.homeo_ground.proofs.Called.{are_called}
 use Rattle.homeo_plan.specs.Key.{definitions as plan_definitions}
 use Rattle.homeo_plan.specs.Each.{Each}
-use Rattle.homeo_build.specs.Key.{definitions}
-use Rattle.homeo_build.specs.Forms.{CallBody, body_of, body_ground, with_body, bodies_after, call_forms, IsCallForm, HaveForms, AreForms}
-use Rattle.homeo_build.specs.Forms.{same_body as same_call_body}
-use Rattle.homeo_build.specs.inner.Bodies.{call_body, ground_to, IsFormTo, HaveBodies, StayPlaced}
+use Rattle.homeo_build.specs.inner.CallForms.{IsCallForm}
+use Rattle.homeo_build.specs.inner.Bodies.{call_body, ground_to, HaveBodies, StayPlaced}
 use Rattle.homeo_build.specs.declared.forms.Body.{Body}
 
 -- ---- what stands at a place
@@ -59,7 +63,7 @@ abbrev pub same_body : Body → Body → Bool
 same_body a b = (a.transaction == b.transaction) && pointwise int_eq a.args.items b.args.items
 
 -- ---- bodies with their forms
-bodies_end : (w : s.Workload) (bs : List Body) (fs : List Command) (b : Body) (f : Command) → HaveBodies w bs fs → IsFormTo w b f → HaveBodies w (bs ++ b ∷ []) (fs ++ f ∷ [])
+bodies_end : (w : s.Workload) (bs : List Body) (fs : List Command) (b : Body) (f : Command) → HaveBodies w bs fs → f ≡ ground_form w (ground_to b) → HaveBodies w (bs ++ b ∷ []) (fs ++ f ∷ [])
 bodies_end w [] [] b f h m = (m, tt)
 bodies_end w [] (g ∷ fs) b f h m = absurd h
 bodies_end w (a ∷ bs) [] b f h m = absurd h
@@ -71,15 +75,8 @@ form_at w [] (f ∷ fs) j b h e = absurd h
 form_at w (a ∷ bs) [] j b h e = absurd h
 form_at w (a ∷ bs) (f ∷ fs) zero b h e =
     let same : a ≡ b = cc in
-    ap Some (h.0.is ∙ ap (λ x. ground_form w (ground_to x)) same)
+    ap Some (h.0 ∙ ap (λ x. ground_form w (ground_to x)) same)
 form_at w (a ∷ bs) (f ∷ fs) (suc j) b h e = form_at w bs fs j b h.1 e
-
-pub made_each : (w : s.Workload) (bs : List Body) (fs : List Command) → HaveBodies w bs fs → Each (IsCallForm w) fs
-unfolding plan_definitions
-made_each w [] [] h = tt
-made_each w [] (f ∷ fs) h = absurd h
-made_each w (b ∷ bs) [] h = absurd h
-made_each w (b ∷ bs) (f ∷ fs) h = (record { call = ground_to b; made = h.0.made; is = h.0.is }, made_each w bs fs h.1)
 
 body_alike : (w : s.Workload) (b k : Body) → b.transaction ≡ k.transaction → b.args.items ≡ k.args.items → ground_form w (ground_to b) ≡ ground_form w (ground_to k)
 unfolding meaning_definitions
@@ -91,16 +88,13 @@ module _ (w : s.Workload) (g : Ground) (b : Body) (transaction : b.transaction �
   unfolding meaning_definitions
   alike = ap₂ (λ n xs. body_form w (slice_get w.transactions n) xs) transaction args
 
-  made_alike : IsGroundCall w g.transaction g.args → IsGroundCall w b.transaction b.args.items
-  made_alike h = subst (λ n. IsGroundCall w n b.args.items) (sym transaction) (subst (IsGroundCall w g.transaction) (sym args) h)
-
   pub put_new :
       (bs found : List Body) (old new : List LCommand) (f : LCommand) (there : Bool) → found ≡ (if there then bs else bs ++ b ∷ []) →
-      not there ≡ true → new ≡ old ++ f ∷ [] → HaveBodies w bs (map plain_lcommand old) → IsGroundCall w g.transaction g.args →
+      not there ≡ true → new ≡ old ++ f ∷ [] → HaveBodies w bs (map plain_lcommand old) →
       plain_lcommand f ≡ ground_form w g → HaveBodies w found (map plain_lcommand new)
-  put_new bs found old new f true e n m h made is = cc
-  put_new bs found old new f false e n m h made is =
-      let here : IsFormTo w b (plain_lcommand f) = record { made = made_alike made; is = is ∙ sym alike } in
+  put_new bs found old new f true e n m h is = cc
+  put_new bs found old new f false e n m h is =
+      let here : plain_lcommand f ≡ ground_form w (ground_to b) = is ∙ sym alike in
       let forms : map plain_lcommand new ≡ map plain_lcommand old ++ plain_lcommand f ∷ [] = ap (map plain_lcommand) m ∙ map_push plain_lcommand old f in
       subst (λ l. HaveBodies w l (map plain_lcommand new)) (sym e)
       (subst (HaveBodies w (bs ++ b ∷ [])) (sym forms) (bodies_end w bs (map plain_lcommand old) b (plain_lcommand f) h here))
@@ -127,7 +121,7 @@ forms_are : (w : s.Workload) (bs : List Body) (fs : List Command) → HaveBodies
 forms_are w [] [] h = refl
 forms_are w [] (f ∷ fs) h = absurd h
 forms_are w (b ∷ bs) [] h = absurd h
-forms_are w (b ∷ bs) (f ∷ fs) h = ap₂ (λ x l. x ∷ l) h.0.is (forms_are w bs fs h.1)
+forms_are w (b ∷ bs) (f ∷ fs) h = ap₂ (λ x l. x ∷ l) h.0 (forms_are w bs fs h.1)
 
 any_body : (b : Body) (bs : List Body) → list_any (same_body b) bs ≡ list_any (same_call_body (call_body b)) (map call_body bs)
 any_body b [] = refl
@@ -147,12 +141,12 @@ keys_put g b bs found transaction args put =
     either false = map_push call_body bs b
 
 bodies_push : (bs : List CallBody) (gs : List Ground) (g : Ground) → bodies_after bs (gs ++ g ∷ []) ≡ with_body (bodies_after bs gs) (body_of g)
-unfolding definitions
+unfolding meaning_definitions
 bodies_push bs [] g = refl
 bodies_push bs (x ∷ gs) g = bodies_push (with_body bs (body_of x)) gs g
 
 pub keys_none : (keys : List Body) → keys ≡ [] → map call_body keys ≡ bodies_after [] []
-unfolding definitions
+unfolding meaning_definitions
 keys_none keys p = ap (map call_body) p
 
 -- one call more
@@ -168,28 +162,28 @@ keys_next calls i call old new within is put h =
 pub forms_all :
     (w : s.Workload) (bs : List Body) (fs : List Command) (calls : List GroundCall) (i : ℕ) → length calls ≤ i → map plain_ground calls ≡ grounds w →
     HaveBodies w bs fs → map call_body bs ≡ bodies_after [] (map plain_ground (take i calls)) → fs ≡ call_forms w
-unfolding definitions
+unfolding meaning_definitions
 forms_all w bs fs calls i past are h keys =
     forms_are w bs fs h
     ∙ ap (map (λ b. ground_form w (body_ground b))) (keys ∙ ap (bodies_after []) (ap (map plain_ground) (take_all i calls past) ∙ are))
 
 -- ---- ground calls with the places of their forms
 have_more : (w : s.Workload) (fs more : List Command) (gs : List Ground) (ns : List ℕ) → StayPlaced fs more → HaveForms w fs gs ns → HaveForms w more gs ns
-unfolding definitions
+unfolding meaning_definitions
 have_more w fs more [] [] t h = tt
 have_more w fs more [] (n ∷ ns) t h = absurd h
 have_more w fs more (g ∷ gs) [] t h = absurd h
 have_more w fs more (g ∷ gs) (n ∷ ns) t h = (t n (ground_form w g) h.0, have_more w fs more gs ns t h.1)
 
 have_end : (w : s.Workload) (fs : List Command) (gs : List Ground) (ns : List ℕ) (g : Ground) (n : ℕ) → HaveForms w fs gs ns → slice_get fs n ≡ Some (ground_form w g) → HaveForms w fs (gs ++ g ∷ []) (ns ++ n ∷ [])
-unfolding definitions
+unfolding meaning_definitions
 have_end w fs [] [] g n h e = (e, tt)
 have_end w fs [] (m ∷ ns) g n h e = absurd h
 have_end w fs (f ∷ gs) [] g n h e = absurd h
 have_end w fs (f ∷ gs) (m ∷ ns) g n h e = (h.0, have_end w fs gs ns g n h.1 e)
 
 pub have_none : (w : s.Workload) (fs : List Command) (ns : List ℕ) → ns ≡ [] → HaveForms w fs [] ns
-unfolding definitions
+unfolding meaning_definitions
 have_none w fs ns p = subst (HaveForms w fs []) (sym p) tt
 
 -- one call more
@@ -210,14 +204,14 @@ have_all w fs calls i ns past are h =
     subst (λ l. HaveForms w fs l ns) (ap (map plain_ground) (take_all i calls past) ∙ are) h
 
 have_count : (w : s.Workload) (fs : List Command) (gs : List Ground) (ns : List ℕ) → HaveForms w fs gs ns → length gs ≡ length ns
-unfolding definitions
+unfolding meaning_definitions
 have_count w fs [] [] h = refl
 have_count w fs [] (n ∷ ns) h = absurd h
 have_count w fs (g ∷ gs) [] h = absurd h
 have_count w fs (g ∷ gs) (n ∷ ns) h = ap suc (have_count w fs gs ns h.1)
 
 have_at : (w : s.Workload) (fs : List Command) (gs : List Ground) (ns : List ℕ) (i : ℕ) (g : Ground) → HaveForms w fs gs ns → i < length gs → slice_get fs (slice_index_or ns i 0) ≡ Some (ground_form w (get_or gs i g))
-unfolding definitions
+unfolding meaning_definitions
 have_at w fs [] ns i g h l = absurd (omega (arith, l))
 have_at w fs (f ∷ gs) [] i g h l = absurd h
 have_at w fs (f ∷ gs) (n ∷ ns) zero g h l = h.0
@@ -260,3 +254,40 @@ form_here w fs ns calls i call forms are within is =
     mapped [] j x l p = refl
     mapped (z ∷ xs) zero x l p = ap plain_ground (sym p)
     mapped (z ∷ xs) (suc j) x l p = mapped xs j x (omega (arith, l)) p
+
+-- ---- each is of a ground call that some client makes
+module _ (w : s.Workload) where
+  abbrev IsMade : CallBody → Type 0
+  IsMade b = IsGroundCall w b.transaction b.args
+
+  with_made : (bs : List CallBody) (b : CallBody) → Each IsMade bs → IsMade b → Each IsMade (with_body bs b)
+  unfolding plan_definitions
+  with_made bs b h m = either (list_any (same_call_body b) bs)
+    where
+      pushed : (l : List CallBody) → Each IsMade l → Each IsMade (l ++ b ∷ [])
+      pushed [] k = (m, tt)
+      pushed (x ∷ l) k = (k.0, pushed l k.1)
+
+      either : (t : Bool) → Each IsMade (if t then bs else bs ++ b ∷ [])
+      either true = h
+      either false = pushed bs h
+
+  all_made : (bs : List CallBody) (gs : List Ground) → All (IsCalled w) gs → Each IsMade bs → Each IsMade (bodies_after bs gs)
+  unfolding meaning_definitions
+  all_made bs [] called h = h
+  all_made bs (g ∷ gs) called h =
+      all_made (with_body bs (body_of g)) gs (All-tail (IsCalled w) g gs called) (with_made bs (body_of g) h (All-head (IsCalled w) g gs called).made)
+
+  form_each : (bs : List CallBody) → Each IsMade bs → Each (IsCallForm w) (map (λ b. ground_form w (body_ground b)) bs)
+  unfolding plan_definitions
+  form_each [] h = tt
+  form_each (b ∷ bs) h = (record { call = body_ground b; made = h.0; is = refl }, form_each bs h.1)
+
+  none_made : Each IsMade []
+  unfolding plan_definitions
+  none_made = tt
+
+  pub made_each : (fs : List Command) (places : List ℕ) → IsAccepted w → AreForms w fs places → Each (IsCallForm w) fs
+  unfolding meaning_definitions
+  made_each fs places accepted forms =
+      subst (Each (IsCallForm w)) (sym forms.are) (form_each (bodies_after [] (grounds w)) (all_made [] (grounds w) (are_called w accepted) none_made))

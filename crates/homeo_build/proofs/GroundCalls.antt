@@ -3,6 +3,7 @@ use Rattle.std.proofs.Common.{◌≡◌, ℕ, ◌<◌, List, [], ◌∷◌, map,
 use Rattle.std.specs.Prelude.{slice_get}
 use Rattle.std.proofs.lemmas.List.{get_or-map, length-map}
 use Rattle.std.proofs.lemmas.List.Elements.{All-nil, All-cons}
+use Rattle.std.proofs.lemmas.Simd.{map-map}
 use Rattle.homeo_lemmas.proofs.Places.{one_placed}
 use Rattle.homeo_syntax.specs.Low.{Command}
 use Rattle.homeo_syntax.specs.Source as s
@@ -20,7 +21,6 @@ use Rattle.homeo_plan.specs.Template.{PlannedCall, shifted}
 use Rattle.homeo_plan.proofs.PlannedCalls.{StandsBelow, ground_sites_below}
 use Rattle.homeo_build.specs.inner.Planning.{CanCompile}
 use Rattle.homeo_build.proofs.FormsMade.{placed_map}
-use Rattle.homeo_build.proofs.Grown.{map_map}
 
 -- what is made of a ground call, as it is planned
 abbrev pub of_call : {Z : Type 0} → s.Workload → (PlannedCall → Z) → GroundCall → Z
@@ -31,8 +31,8 @@ pub of_calls :
     map (of_call w h) calls ≡ map h (planned w)
 unfolding plan_definitions
 of_calls w h calls are =
-    sym (map_map plain_ground (λ g. h (planned_call w g)) calls) ∙ ap (map (λ g. h (planned_call w g))) are
-    ∙ sym (map_map (planned_call w) h (grounds w))
+    sym (map-map (λ g. h (planned_call w g)) plain_ground calls) ∙ ap (map (λ g. h (planned_call w g))) are
+    ∙ sym (map-map h (planned_call w) (grounds w))
 
 pub ground_below : (w : s.Workload) (calls : List GroundCall) (n : ℕ) → map plain_ground calls ≡ grounds w → n < length (grounds w) → n < length calls
 ground_below w calls n are within = omega (arith, ap length are, length-map calls plain_ground, within)

@@ -1,5 +1,5 @@
 -- Lists that grow by one element for each element of another list.
-use Rattle.std.proofs.Common.{◌≡◌, ℕ, ◌+◌, ◌<◌, List, [], ◌∷◌, ◌++◌, map, length, take, get_or, refl, sym, ap, ap₂, ◌∙◌, arith}
+use Rattle.std.proofs.Common.{◌≡◌, ℕ, ◌+◌, ◌<◌, List, [], ◌∷◌, ◌++◌, map, length, take, get_or, sym, ap, ap₂, ◌∙◌, arith}
 use Rattle.std.proofs.lemmas.List.{take_more, map-append, get_or-map, length-map}
 
 module _ {X Y Z : Type 0} (f : X → Z) (h : Y → Z) where
@@ -23,8 +23,3 @@ module _ {X Y Z : Type 0} (f : X → Z) (h : Y → Z) where
       let here : i < length xs = omega (arith, same_length xs ys same, within) in
       ap f x_is ∙ sym (get_or-map f xs i x (f x) here) ∙ ap (λ l. get_or l i (f x)) same ∙ get_or-map h ys i y (f x) within
       ∙ ap h (sym y_is)
-
--- one function after another
-pub map_map : {X Y Z : Type 0} (f : X → Y) (h : Y → Z) (xs : List X) → map h (map f xs) ≡ map (λ x. h (f x)) xs
-map_map f h [] = refl
-map_map f h (x ∷ xs) = ap (λ l. h (f x) ∷ l) (map_map f h xs)

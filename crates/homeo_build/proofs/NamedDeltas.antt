@@ -3,15 +3,14 @@ use Rattle.homeo_meaning.specs.Key.{definitions as meaning_definitions}
 use Rattle.homeo_plan.specs.Key.{definitions as plan_definitions}
 use Rattle.homeo_follow.specs.Key.{definitions as follow_definitions}
 use Rattle.std.proofs.Common.{ℕ, zero, suc, ◌+◌, ◌==◌, ◌<◌, ◌≤◌, Bool, true, false, cond, List, [], ◌∷◌, map, ℤ, pos, negsuc, int_lt, sym, subst, arith}
-use Rattle.homeo_syntax.specs.declared.phrase.Compare.{Compare}
-use Rattle.homeo_syntax.specs.declared.phrase.Compare.TheVariants.{Less, LessEqual, Equal}
 use Rattle.homeo_syntax.specs.declared.low.SplitName.{SplitName}
 use Rattle.homeo_syntax.specs.declared.low.SplitName.TheVariants as split
 use Rattle.homeo_syntax.specs.Low.{Expr, Exprs, Literal, OfTemp, Read, Sum, Product, Neg, NoExpr, MoreExpr, Test, Cond, True, Not, Comparison, NoTest, MoreTest, Command, Commands, Skip, Assign, Write, Print, Seq, If, NoCommand, MoreCommand}
 use Rattle.homeo_meaning.specs.LowMeaning.{Location, TempAt, BaseAt, DeltaAt, location_of, same_location, put}
-use Rattle.homeo_meaning.specs.NamesWithin.{ObjectWithin, ExprWithin, ExprsWithin, TestWithin, CondWithin, NamesWithin, AllNamesWithin}
+use Rattle.homeo_meaning.specs.NamesWithin.{ObjectWithin, NamesWithin}
 use Rattle.homeo_meaning.specs.Whole.{IsWhole}
-use Rattle.homeo_plan.specs.Atoms.{difference, true_comparison, false_comparison}
+use Rattle.homeo_meaning.proofs.Parts.{ExprWithin, ExprsWithin, TestWithin, CondWithin, AllNamesWithin}
+use Rattle.homeo_plan.specs.Atoms.{difference}
 use Rattle.homeo_plan.specs.Each.{Each}
 use Rattle.homeo_plan.specs.declared.forms.Delta.{Delta}
 use Rattle.homeo_plan.specs.declared.forms.Term.{Term}
@@ -21,7 +20,7 @@ use Rattle.homeo_plan.specs.Template.{PlannedCall, atoms_of, needs_of}
 use Rattle.homeo_follow.specs.Expanded.{deltas_from, expanded_deltas, expanded}
 use Rattle.homeo_follow.specs.Follow.{passes_by, holds_by, passed_test, failed_test, passed, failed, Followed, asked, object_of, follow, follow_all, object_form, object_forms, followed, gain, print_needs, write_needs, needed}
 use Rattle.homeo_plan.proofs.DeltaLists.{each_puts}
-use Rattle.homeo_plan.proofs.Atoms.{append_each}
+use Rattle.homeo_plan.proofs.Atoms.{append_each, each_true, each_false}
 use Rattle.homeo_follow.proofs.Needed.{needs_are_followed}
 use Rattle.homeo_follow.proofs.PlannedAtoms.{atoms_are_followed}
 use Rattle.homeo_follow.proofs.Terms.{OfEach, each_adds, each_scale}
@@ -81,19 +80,6 @@ module _ (n names : ℕ) where
   named_difference a b z h g =
       named_add (constant_form z) (add_forms a (scale_form (negsuc 0) b)) (named_constant z)
       (named_add a (scale_form (negsuc 0) b) h (named_scale (negsuc 0) b g))
-
-  named_true : (op : Compare) (a b : Linear) → Named a → Named b → Each Named (true_comparison op a b)
-  unfolding plan_definitions
-  named_true Less a b h g = (named_difference a b (pos 1) h g, tt)
-  named_true LessEqual a b h g = (named_difference a b (pos 0) h g, tt)
-  named_true Equal a b h g = (named_difference a b (pos 0) h g, (named_difference b a (pos 0) g h, tt))
-
-  named_false : (op : Compare) (v : Bool) (a b : Linear) → Named a → Named b → Each Named (false_comparison op v a b)
-  unfolding plan_definitions
-  named_false Less v a b h g = (named_difference b a (pos 0) g h, tt)
-  named_false LessEqual v a b h g = (named_difference b a (pos 1) g h, tt)
-  named_false Equal true a b h g = (named_difference a b (pos 1) h g, tt)
-  named_false Equal false a b h g = (named_difference b a (pos 1) g h, tt)
 
   -- ---- at each place that is named
   abbrev IsThere : Location → Type 0
@@ -157,13 +143,13 @@ module _ (n names : ℕ) where
       named_passed_test : (t : Test) → TestWithin n names t → Each Named (passed_test f t)
       named_passed_test True s = tt
       named_passed_test (Not c) s = named_failed c s
-      named_passed_test (Comparison op x y) s = named_true op (form f x) (form f y) (named_form x s.0) (named_form y s.1)
+      named_passed_test (Comparison op x y) s = each_true Named named_difference op (form f x) (form f y) (named_form x s.0) (named_form y s.1)
 
       named_failed_test : (t : Test) → TestWithin n names t → Each Named (failed_test f t)
       named_failed_test True s = tt
       named_failed_test (Not c) s = named_passed c s
       named_failed_test (Comparison op x y) s =
-          named_false op (int_lt (form f x).constant (form f y).constant) (form f x) (form f y) (named_form x s.0) (named_form y s.1)
+          each_false Named named_difference op (int_lt (form f x).constant (form f y).constant) (form f x) (form f y) (named_form x s.0) (named_form y s.1)
 
       named_passed : (c : Cond) → CondWithin n names c → Each Named (passed f c)
       named_passed NoTest s = tt

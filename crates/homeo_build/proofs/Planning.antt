@@ -16,6 +16,7 @@ use Rattle.homeo_meaning.specs.Schema.{schema_of}
 use Rattle.homeo_meaning.specs.Serial.{values_of}
 use Rattle.homeo_meaning.specs.Small.{IsSmall}
 use Rattle.homeo_meaning.proofs.Within.{all_within}
+use Rattle.homeo_lform.proofs.Wholes.{ground_whole}
 use Rattle.homeo_plan.specs.Key.{definitions as plan_definitions}
 use Rattle.homeo_plan.specs.Limit.{form_limit}
 use Rattle.homeo_plan.specs.Needs.{IsStraight}
@@ -26,7 +27,6 @@ use Rattle.homeo_plan.specs.Table.{Row, table, row_at, walk}
 use Rattle.homeo_plan.specs.Template.{shifted}
 use Rattle.homeo_plan.proofs.AcceptedForms.{accepted_forms}
 use Rattle.homeo_plan.proofs.BoundSizes.{most}
-use Rattle.homeo_plan.proofs.GroundForms.{ground_whole}
 use Rattle.homeo_plan.proofs.GroundNumbers.{values_small, fold_numbers}
 use Rattle.homeo_plan.proofs.Straight.{walk_straight}
 use Rattle.homeo_plan.proofs.Sums.{sum_zero}

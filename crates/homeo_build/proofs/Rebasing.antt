@@ -2,13 +2,15 @@
 use Rattle.homeo_plan.specs.Key.{definitions as plan_definitions}
 use Rattle.homeo_follow.specs.Key.{definitions as follow_definitions}
 use Rattle.homeo_outline.specs.Key.{definitions as outline_definitions}
-use Rattle.homeo_build.specs.Key.{definitions}
+use Rattle.homeo_meaning.specs.Key.{definitions as meaning_definitions}
 use Rattle.std.proofs.Common.{◌≡◌, ℕ, zero, suc, List, [], ◌∷◌, map, Some, ℤ, sym, ap, subst, ◌∙◌}
 use Rattle.std.specs.Prelude.{slice_get}
+use Rattle.std.proofs.lemmas.Simd.{map-map}
 use Rattle.homeo_syntax.specs.Low.{Command}
 use Rattle.homeo_syntax.specs.Source as s
 use Rattle.homeo_meaning.specs.Acceptance.{IsAccepted}
 use Rattle.homeo_meaning.specs.CallForm.{ground_form}
+use Rattle.homeo_meaning.specs.Forms.{call_forms, HaveForms, AreForms}
 use Rattle.homeo_meaning.specs.Ground.{Ground, grounds}
 use Rattle.homeo_meaning.specs.Serial.{values_of}
 use Rattle.homeo_plan.specs.Each.{Each}
@@ -20,10 +22,8 @@ use Rattle.homeo_follow.specs.Rebased.{rebased_clause, rebased, gains}
 use Rattle.homeo_follow.proofs.Rebasing.{templates_stay}
 use Rattle.homeo_outline.specs.ObjectPlan.{clauses_with, template_with}
 use Rattle.homeo_outline.specs.Outlined.{Outlined}
-use Rattle.homeo_build.specs.Forms.{call_forms, HaveForms, AreForms}
 use Rattle.homeo_build.proofs.ByObjects.{are_planned}
 use Rattle.homeo_build.proofs.FewSites.{sites_few}
-use Rattle.homeo_build.proofs.Grown.{map_map}
 
 -- what is the same of all forms is so of the one at a place
 same_there : {X : Type 0} (f h : Command → X) (fs : List Command) (n : ℕ) (c : Command) → map f fs ≡ map h fs → slice_get fs n ≡ Some c → f c ≡ h c
@@ -41,7 +41,7 @@ module _ (w : s.Workload) (fs : List Command) (places : List ℕ) (forms : AreFo
   calls_stay :
       map (brought (values_of d)) fs ≡ map (λ c. rebased gain (brought (values_of b) c)) fs → (gs : List Ground) (ns : List ℕ) →
       HaveForms w fs gs ns → Each Stays (map (planned_call w) gs)
-  unfolding definitions plan_definitions
+  unfolding meaning_definitions plan_definitions
   calls_stay e [] [] h = tt
   calls_stay e [] (n ∷ ns) h = absurd h
   calls_stay e (g ∷ gs) [] h = absurd h
@@ -58,7 +58,7 @@ module _ (w : s.Workload) (fs : List Command) (places : List ℕ) (forms : AreFo
   outline_rebased part old new before after moved o slacks more sites is made =
       let forms_same : map (brought (values_of d)) fs ≡ map (λ c. rebased gain (brought (values_of b) c)) fs =
       subst (λ l. map (brought (values_of d)) l ≡ map (λ c. rebased gain (brought (values_of b) c)) l) (sym forms.are)
-      (sym after ∙ moved ∙ ap (map (rebased gain)) before ∙ map_map (brought (values_of b)) (rebased gain) (call_forms w)) in
+      (sym after ∙ moved ∙ ap (map (rebased gain)) before ∙ map-map (rebased gain) (brought (values_of b)) (call_forms w)) in
       (λ i. let u : Template = record { clauses = made i; freezes = o.freezes } in expanded_template (sites i) u)
       ∙ templates_stay (sites_of w) (values_of b) (values_of d) gain (sites_few w accepted).some (planned w) (are_planned w accepted)
       (calls_stay forms_same (grounds w) places forms.placed) (clauses_with o.terms slacks) o.freezes

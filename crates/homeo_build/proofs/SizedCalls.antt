@@ -1,32 +1,19 @@
 -- How large the L forms of an accepted workload's ground calls are, each and together.
-use Rattle.std.proofs.Common.{◌≡◌, ℕ, ◌+◌, ◌≤◌, Bool, true, false, ◌||◌, List, [], ◌∷◌, ◌++◌, map, ℤ, refl, sym, ap, ap₂, ◌∙◌, subst, arith}
-use Rattle.std.specs.Prelude.{slice_get, nat_lt}
-use Rattle.std.specs.List.{flat_map, sum_by}
-use Rattle.std.proofs.lemmas.Bool.Decides.{nat_tests}
-use Rattle.std.proofs.lemmas.List.Sums.{sum_by-append, sum_by-cons}
+use Rattle.std.proofs.Common.{◌≡◌, ℕ, ◌+◌, ◌≤◌, List, [], ◌∷◌, map, refl, sym, ap, ap₂, ◌∙◌, subst, arith}
+use Rattle.std.specs.List.{sum_by}
+use Rattle.std.proofs.lemmas.List.Sums.{sum_by-cons}
 use Rattle.homeo_syntax.specs.Key.{definitions as syntax_definitions}
 use Rattle.homeo_syntax.specs.Source as s
-use Rattle.homeo_syntax.specs.declared.phrase.Ident.{Ident}
 use Rattle.homeo_syntax.specs.WellFormed.{Each as Every}
 use Rattle.homeo_meaning.specs.Key.{definitions as meaning_definitions}
-use Rattle.homeo_meaning.specs.declared.call.Purpose.TheVariants.{Run}
-use Rattle.homeo_meaning.specs.declared.rules.Fault.{Fault}
-use Rattle.homeo_meaning.specs.declared.rules.Phase.TheVariants.{Size}
 use Rattle.homeo_meaning.specs.Acceptance.{IsAccepted}
 use Rattle.homeo_meaning.specs.CallForm.{body_form}
-use Rattle.homeo_meaning.specs.CallRules.{call_faults, client_faults}
-use Rattle.homeo_meaning.specs.Declarations.{declarations, place_of}
 use Rattle.homeo_meaning.specs.Ground.{ground_of_sited}
-use Rattle.homeo_meaning.specs.GlobalNames.{SitedCall, scope_of, transaction_at, called, sited_calls_of, sited_calls}
-use Rattle.homeo_meaning.specs.ListRules.{when, fault, each_from}
+use Rattle.homeo_meaning.specs.GlobalNames.{SitedCall}
 use Rattle.homeo_meaning.specs.LowSizes.{call_extent}
-use Rattle.homeo_meaning.specs.NumberRules.{site_faults, ground_calls}
-use Rattle.homeo_meaning.specs.Serial.{arguments}
-use Rattle.homeo_meaning.specs.SizeRules.{extent_of, too_large}
-use Rattle.homeo_meaning.proofs.FaultParts.{NoFault, none_first, none_second, parts, declared_parts}
-use Rattle.homeo_meaning.proofs.SoundRules.{names_one, named-is}
-use Rattle.homeo_meaning.proofs.TransactionPlaces.{transaction_place}
-use Rattle.homeo_ground.proofs.Limits.{each-append, distinct-each}
+use Rattle.homeo_meaning.specs.NumberRules.{ground_calls}
+use Rattle.homeo_meaning.specs.SizeRules.{extent_of}
+use Rattle.homeo_ground.proofs.SizedCalls.{IsNamed, all_sized, all_named}
 use Rattle.homeo_plan.specs.Key.{definitions as plan_definitions}
 use Rattle.homeo_plan.specs.Each.{Each}
 use Rattle.homeo_plan.specs.Planned.{sites_of, planned_call, planned}
@@ -36,94 +23,21 @@ use Rattle.homeo_plan.specs.Template.{PlannedCall}
 abbrev pub size_of : ℕ → PlannedCall → ℕ
 size_of k g = (call_extent k g.command).size
 
--- ---- calls without a fault of size
-size_small :
-    (n total : ℕ) (deep : Bool) (x : Ident) → when (nat_lt 200000 n || deep || nat_lt 2000000 total) (fault Size x) ≡ [] →
-    (n ≤ 200000) × (total ≤ 2000000)
-unfolding meaning_definitions
-size_small n total deep x e = go (nat_lt 200000 n) deep (nat_lt 2000000 total) refl refl e
-  where
-    go :
-        (u v t : Bool) → nat_lt 200000 n ≡ u → nat_lt 2000000 total ≡ t → when (u || v || t) (fault Size x) ≡ [] →
-        (n ≤ 200000) × (total ≤ 2000000)
-    go true v t p q e = absurd (cc)
-    go false true t p q e = absurd (cc)
-    go false false true p q e = absurd (cc)
-    go false false false p q e = (grind (arith, nat_tests, p), grind (arith, nat_tests, q))
-
 module _ (w : s.Workload) where
-  -- each of these calls is small, and with those before they are
-  record AreSized (before cs : List SitedCall) : Type 0 where
-    each : Every (λ c. (extent_of w c).size ≤ 200000) cs
-    together : sum_by (λ c. (extent_of w c).size) before + sum_by (λ c. (extent_of w c).size) cs ≤ 2000000
-
-  sized_from :
-      (before cs : List SitedCall) → each_from (too_large (extent_of w)) before cs ≡ [] →
-      sum_by (λ c. (extent_of w c).size) before ≤ 2000000 → AreSized before cs
-  unfolding meaning_definitions syntax_definitions
-  sized_from before [] e h = record { each = tt; together = omega (arith, h) }
-  sized_from before (c ∷ cs) e h =
-      let first : List Fault = too_large (extent_of w) before c in
-      let rest : List Fault = each_from (too_large (extent_of w)) (before ++ c ∷ []) cs in
-      let here =
-      size_small (extent_of w c).size (sum_by (λ d. (extent_of w d).size) before + (extent_of w c).size) (nat_lt 1000 (extent_of w c).depth)
-      c.name (none_first first rest e) in
-      let one = sum_by-append (λ d. (extent_of w d).size) before (c ∷ []) in
-      let last = sum_by-cons (λ d. (extent_of w d).size) c [] in
-      let more = sum_by-cons (λ d. (extent_of w d).size) c cs in
-      let r = sized_from (before ++ c ∷ []) cs (none_second first rest e) (omega (arith, one, last, here.1)) in
-      record { each = (here.0, r.each); together = omega (arith, one, last, more, r.together) }
-
-  -- ---- what a call names is the transaction of the ground call
-  abbrev IsNamed : SitedCall → Type 0
-  IsNamed c = called w c.name ≡ slice_get w.transactions (place_of (declarations w).transactions c.name.name)
-
-  one_named :
-      (c : s.Call) → call_faults w.transactions ((scope_of w).item c.name.name) c ≡ [] →
-      called w c.name ≡ slice_get w.transactions (place_of (declarations w).transactions c.name.name)
-  unfolding meaning_definitions
-  one_named c e =
-      let k = names_one w c ((scope_of w).item c.name.name) e in
-      ap (transaction_at w) k.1 ∙ sym (named-is w c.name.name k.0 k.1) ∙ sym (transaction_place w c.name.name)
-
-  calls_named :
-      (site : ℤ) (calls : List s.Call) →
-      flat_map (λ (c : s.Call). call_faults w.transactions ((scope_of w).item c.name.name) c) calls ≡ [] →
-      Every IsNamed (map (λ (c : s.Call). record { name = c.name; args = arguments c; site = site }) calls)
-  unfolding meaning_definitions syntax_definitions
-  calls_named site [] e = tt
-  calls_named site (c ∷ calls) e =
-      let first : List Fault = call_faults w.transactions ((scope_of w).item c.name.name) c in
-      let rest : List Fault = flat_map (λ (c : s.Call). call_faults w.transactions ((scope_of w).item c.name.name) c) calls in
-      (one_named c (none_first first rest e), calls_named site calls (none_second first rest e))
-
-  clients_named :
-      (cs : List s.Client) → flat_map (client_faults w.sites (scope_of w) w.transactions) cs ≡ [] →
-      Every IsNamed (flat_map sited_calls_of cs)
-  unfolding meaning_definitions syntax_definitions
-  clients_named [] e = tt
-  clients_named (c ∷ cs) e =
-      let faults : List Fault = flat_map (λ (call : s.Call). call_faults w.transactions ((scope_of w).item call.name.name) call) c.calls in
-      let sites : List Fault = site_faults w.sites c.site in
-      let more : List Fault = flat_map (client_faults w.sites (scope_of w) w.transactions) cs in
-      each-append IsNamed (sited_calls_of c) (flat_map sited_calls_of cs)
-      (calls_named c.site.value c.calls (none_first faults sites (none_first (faults ++ sites) more e)))
-      (clients_named cs (none_second (faults ++ sites) more e))
-
   -- ---- planned calls
-  same_size : (c : SitedCall) → IsNamed c → (extent_of w c).size ≡ size_of (sites_of w) (planned_call w (ground_of_sited w c))
+  same_size : (c : SitedCall) → IsNamed w c → (extent_of w c).size ≡ size_of (sites_of w) (planned_call w (ground_of_sited w c))
   unfolding meaning_definitions plan_definitions
   same_size c e = ap (λ o. (call_extent (sites_of w) (body_form w o c.args)).size) e
 
   planned_sized :
-      (cs : List SitedCall) → Every IsNamed cs → Every (λ c. (extent_of w c).size ≤ 200000) cs →
+      (cs : List SitedCall) → Every (IsNamed w) cs → Every (λ c. (extent_of w c).size ≤ 200000) cs →
       Each (λ g. size_of (sites_of w) g ≤ 200000) (map (planned_call w) (map (ground_of_sited w) cs))
   unfolding plan_definitions syntax_definitions
   planned_sized [] e h = tt
   planned_sized (c ∷ cs) e h = (subst (λ n. n ≤ 200000) (same_size c e.0) h.0, planned_sized cs e.1 h.1)
 
   planned_total :
-      (cs : List SitedCall) → Every IsNamed cs →
+      (cs : List SitedCall) → Every (IsNamed w) cs →
       sum_by (λ c. (extent_of w c).size) cs ≡ sum_by (size_of (sites_of w)) (map (planned_call w) (map (ground_of_sited w) cs))
   unfolding syntax_definitions
   planned_total [] e = refl
@@ -139,9 +53,7 @@ pub record AreSmall (w : s.Workload) : Type 0 where
 pub planned_small : (w : s.Workload) → IsAccepted w → AreSmall w
 unfolding meaning_definitions plan_definitions syntax_definitions
 planned_small w accepted =
-    let clean : NoFault Run w = parts Run w accepted.rules in
-    let named : Every (IsNamed w) (ground_calls w) =
-    distinct-each (IsNamed w) (sited_calls w) [] (clients_named w w.clients (declared_parts w clean.text.declared).clients) tt in
-    let sized : AreSized w [] (ground_calls w) = sized_from w [] (ground_calls w) clean.form.sizes (omega arith) in
+    let named = all_named w accepted in
+    let sized = all_sized w accepted in
     let total = planned_total w (ground_calls w) named in
     record { each = planned_sized w (ground_calls w) named sized.each; together = omega (arith, total, sized.together) }

@@ -17,8 +17,10 @@ use Rattle.homeo_syntax.specs.Key.{definitions as syntax_definitions}
 use Rattle.homeo_meaning.specs.Key.{definitions as meaning_definitions}
 use Rattle.homeo_meaning.specs.CallForm.{ground_form}
 use Rattle.homeo_meaning.specs.Ground.{plain_ground, grounds}
-use Rattle.homeo_meaning.specs.Whole.{IsWholeName, IsWhole, AreWhole}
+use Rattle.homeo_meaning.specs.Whole.{IsWholeName, IsWhole}
 use Rattle.homeo_meaning.specs.declared.call.GroundCall.{GroundCall}
+use Rattle.homeo_meaning.proofs.Parts.{AreWhole}
+use Rattle.homeo_lform.proofs.Wholes.{ground_whole}
 use Rattle.homeo_plan.specs.Key.{definitions as plan_definitions}
 use Rattle.homeo_plan.specs.declared.forms.Delta.{Delta}
 use Rattle.homeo_plan.specs.declared.forms.Term.{Term}
@@ -26,7 +28,6 @@ use Rattle.homeo_plan.specs.Planned.{sites_of, planned}
 use Rattle.homeo_plan.specs.Shares.{writes, writes_all, is_written, takes_part}
 use Rattle.homeo_plan.specs.Split.{shift_expr, shift_write, shift, shift_all}
 use Rattle.homeo_plan.specs.Template.{PlannedCall, shifted, Clause}
-use Rattle.homeo_plan.proofs.GroundForms.{ground_whole}
 use Rattle.homeo_build.specs.Key.{definitions}
 use Rattle.homeo_build.specs.Written.{delta_at, AreWritten}
 use Rattle.homeo_build.specs.inner.WrittenObjects.{names_whole, writes_object, any_writes_object}

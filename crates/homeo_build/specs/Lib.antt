@@ -1,4 +1,3 @@
-pub mod Forms
 pub mod Key
 pub mod Plan
 pub mod Written

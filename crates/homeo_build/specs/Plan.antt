@@ -6,6 +6,7 @@ use Rattle.homeo_syntax.specs.Source as s
 use Rattle.homeo_meaning.specs.Bounds.{IsWithin}
 use Rattle.homeo_meaning.specs.Schema.{schema_of}
 use Rattle.homeo_meaning.specs.Serial.{values_of}
+use Rattle.homeo_meaning.specs.Forms.{call_forms}
 use Rattle.homeo_plan.specs.declared.rows.Residual.{Residual}
 use Rattle.homeo_plan.specs.declared.round.RoundPlan.{RoundPlan}
 use Rattle.homeo_plan.specs.Config as config
@@ -18,7 +19,6 @@ use Rattle.homeo_outline.specs.ObjectPlan.{template_in}
 use Rattle.homeo_outline.specs.declared.plan.ObjectPlan.{ObjectPlan}
 use Rattle.homeo_follow.specs.declared.part.PlanPart.{PlanPart}
 use Rattle.homeo_build.specs.Key.{definitions}
-use Rattle.homeo_build.specs.Forms.{call_forms}
 
 -- a residual with the site of its call
 pub record SitedResidual : Type 0 where

@@ -1,4 +1,5 @@
 pub mod Bodies
+pub mod CallForms
 pub mod Followed
 pub mod Frozen
 pub mod Planning

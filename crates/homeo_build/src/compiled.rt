@@ -12,7 +12,7 @@ ghost use Rattle.homeo_plan.specs.Planned.{sites_of, planned, transformed};
 ghost use Rattle.homeo_plan.specs.Shares.{takes_part};
 ghost use Rattle.homeo_plan.specs.Template.{PlannedCall};
 ghost use Rattle.homeo_follow.specs.Named.{named};
-ghost use Rattle.homeo_build.specs.Forms.{AreForms};
+ghost use Rattle.homeo_meaning.specs.Forms.{AreForms};
 ghost use Rattle.homeo_build.specs.Written.{AreWritten};
 
 use crate::forms::Forms;
@@ -49,7 +49,7 @@ impl Model for Compiled {
     ghost use Rattle.homeo_meaning.specs.Declarations.{declarations};
     ghost use Rattle.homeo_ground.specs.Grounding.{grounding};
     ghost use Rattle.homeo_follow.specs.Named.{named};
-    ghost use Rattle.homeo_build.specs.Forms.{AreForms};
+    ghost use Rattle.homeo_meaning.specs.Forms.{AreForms};
     ghost use Rattle.homeo_build.specs.Written.{AreWritten};
 
     ghost Value = { Workload };

@@ -6,10 +6,10 @@ ghost use Rattle.homeo_syntax.specs.Source as s;
 ghost use Rattle.homeo_syntax.specs.SourceView.{plain_workload};
 ghost use Rattle.homeo_meaning.specs.CallForm.{ground_form};
 ghost use Rattle.homeo_meaning.specs.Declarations.{declarations};
+ghost use Rattle.homeo_meaning.specs.Forms.{AreForms, body_of, with_body};
 ghost use Rattle.homeo_meaning.specs.Ground.{plain_ground, grounds};
 ghost use Rattle.homeo_ground.specs.Grounding.{IsCalled};
 ghost use Rattle.homeo_follow.specs.Named.{named};
-ghost use Rattle.homeo_build.specs.Forms.{AreForms, body_of, with_body};
 ghost use Rattle.homeo_build.specs.inner.Bodies.{call_body, AreBodies, StayPlaced};
 
 use crate::names::names_of;
@@ -30,6 +30,24 @@ pub(crate) struct Forms {
 }
 
 impl Forms {
+    /// The L forms that acceptance made, with the objects that they name.
+    pub(crate) fn found(
+        alloc: Global,
+        forms: List<LCommand>,
+        places: Vec<usize>,
+    ) -> Result<Forms, Memory>
+        ensures forms { IfOk result (λ f. f.forms.items ≡ forms.items) }
+        ensures places { IfOk result (λ f. f.places.items ≡ places.items) }
+        ensures names { IfOk result (λ f. map (λ ns. ns.items) f.names.items ≡ map named (map plain_lcommand f.forms.items)) }
+    {
+        let names = names_of(alloc, forms.as_slice())?;
+        Ok(Forms {
+            forms,
+            places,
+            names,
+        })
+    }
+
     /// Lends the L form of the ground call of this number.
     pub(crate) fn form(&self, call: usize) -> &LCommand
         requires within { call < length self.now.places.items }
@@ -110,8 +128,8 @@ impl Bodies {
     }
 }
 
-/// The L forms of all ground calls of a workload with the objects that they name, in about the time that their texts and
-/// arguments take.
+/// The L forms of all ground calls of a workload with the objects that they name, where acceptance didn't make them, in about the
+/// time that their texts and arguments take.
 pub(crate) fn forms_of(
     alloc: Global,
     w: &Accepted,

@@ -4,7 +4,7 @@ ghost use Rattle.std.specs.Prelude.{◌≡◌, ◌||◌, ℕ, [], false, replica
 ghost use Rattle.homeo_syntax.specs.LowView.{low_commands, plain_lcommand};
 ghost use Rattle.homeo_syntax.specs.SourceView.{plain_workload};
 ghost use Rattle.homeo_meaning.specs.Ground.{plain_ground, grounds};
-ghost use Rattle.homeo_build.specs.Forms.{AreForms};
+ghost use Rattle.homeo_meaning.specs.Forms.{AreForms};
 ghost use Rattle.homeo_build.specs.Written.{AreWritten};
 ghost use Rattle.homeo_build.specs.inner.WrittenObjects.{names_whole, writes_object, any_writes_object};
 

@@ -1,5 +1,6 @@
 -- What is written of a plan is its certificate.
 use Rattle.std.proofs.Common.{◌≡◌, ℕ, List, map, ℤ, pos, codes, sym, ap, ◌∙◌}
+use Rattle.std.proofs.lemmas.Simd.{map-map}
 use Rattle.serde_json.specs.Data.{Data, object, no_members, member}
 use Rattle.homeo_syntax.specs.Listed.{Listed}
 use Rattle.homeo_syntax.specs.Source as s
@@ -8,7 +9,6 @@ use Rattle.homeo_plan.specs.PlanView.{plain_clause, plain_template, plain_config
 use Rattle.homeo_plan.specs.Planned.{sites_of, planned, template_at}
 use Rattle.homeo_plan.specs.Template.{Template}
 use Rattle.homeo_build.specs.Plan.{IsPlanOf}
-use Rattle.homeo_build.proofs.Grown.{map_map}
 use Rattle.homeo_certificate.specs.Certificate.{Certificate}
 use Rattle.homeo_certificate.specs.Certified.{certified_call, certificate_of}
 use Rattle.homeo_certificate.specs.Json.{list_data, whole_data, wholes_data}
@@ -42,9 +42,9 @@ of_parts w p =
     let bounds = map (λ (b : Listed ℤ). wholes_data b.items) p.config.bounds.items in
     let calls = map call_data (map (certified_call (sites_of w)) (planned w)) in
     let clauses = map (λ x. clause_data (plain_clause x)) p.template.clauses.items in
-    ap (λ l. with_lists p bounds l clauses) (sym (map_map (certified_call (sites_of w)) call_data (planned w)))
-    ∙ ap (λ l. with_lists p l calls clauses) (sym (map_map (λ (b : Listed ℤ). b.items) wholes_data p.config.bounds.items))
-    ∙ ap (with_lists p (map wholes_data (plain_config p.config)) calls) (sym (map_map plain_clause clause_data p.template.clauses.items))
+    ap (λ l. with_lists p bounds l clauses) (sym (map-map call_data (certified_call (sites_of w)) (planned w)))
+    ∙ ap (λ l. with_lists p l calls clauses) (sym (map-map wholes_data (λ (b : Listed ℤ). b.items) p.config.bounds.items))
+    ∙ ap (with_lists p (map wholes_data (plain_config p.config)) calls) (sym (map-map clause_data plain_clause p.template.clauses.items))
 
 pub sections_are :
     (w : s.Workload) (p : RoundPlan) → IsPlanOf w p.base.items p →

@@ -22,13 +22,13 @@ use Rattle.homeo_plan.specs.Joined.{Deltas, join, alone, with_site}
 use Rattle.homeo_plan.specs.Local.{no_deltas}
 use Rattle.homeo_plan.specs.Linear.{base_forms, delta_of}
 use Rattle.homeo_plan.specs.Template.{Clause}
-use Rattle.homeo_plan.specs.Treaty.{KeepsFreezes, Treaty}
+use Rattle.homeo_plan.specs.Treaty.{Treaty}
 use Rattle.homeo_plan.proofs.Atoms.{start_tracks, append_each}
 use Rattle.homeo_plan.proofs.Covering.{each_member}
 use Rattle.homeo_plan.proofs.Local.{join_is_on}
 use Rattle.homeo_plan.proofs.SiteSums.{clauses_hold, freezes_hold}
 use Rattle.homeo_plan.proofs.Tracked.{tracks}
-use Rattle.homeo_plan.proofs.OwnWithin.{zero_keeps_clauses}
+use Rattle.homeo_plan.proofs.OwnWithin.{zero_keeps_clauses, zero_keeps_freezes}
 use Rattle.homeo_certificate.specs.declared.verdict.Verdict.{Verdict}
 use Rattle.homeo_certificate.specs.declared.verdict.Verdict.TheVariants as verdict
 use Rattle.homeo_certificate.specs.Certificate.{Call, Certificate, template_of, base_of}
@@ -136,11 +136,6 @@ valid_has_none c e =
     record { bounds = p.0; calls = no_call_faults 0 c c.calls p.1 }
 
 -- ---- a site's deltas alone
-none_freeze : (i : ℕ) (ds : List Delta) → KeepsFreezes i no_deltas ds
-unfolding plan_definitions
-none_freeze i [] = tt
-none_freeze i (d ∷ ds) = (λ e. refl, none_freeze i ds)
-
 module _ (c : Certificate) (fits : Fits c.sites c.clauses c.bounds) (d : ℕ → Deltas) (keeps : (i : ℕ) → i < c.sites → Treaty (template_of c) c.bounds i (d i)) where
   meets_all : (g : Call) → Meets (rules_of c g) (join c.sites (base_of c) d)
   unfolding definitions plan_definitions
@@ -181,7 +176,7 @@ module _ (c : Certificate) (fits : Fits c.sites c.clauses c.bounds) (d : ℕ →
       go true q =
           let e : g.site ≡ i = grind (arith, nat_tests) in
           subst (λ j. Treaty (template_of c) c.bounds i (d j)) (sym e) (keeps i l)
-      go false q = record { clauses = zero_keeps_clauses c.sites i c.clauses c.bounds fits; freezes = none_freeze i c.freezes }
+      go false q = record { clauses = zero_keeps_clauses c.sites i c.clauses c.bounds fits; freezes = zero_keeps_freezes i c.freezes }
 
   meets_alone : Meets (rules_of c g) (alone (base_of c) g.site (d g.site))
   unfolding definitions plan_definitions

@@ -53,7 +53,7 @@ record PlainItems (n : ℕ) (ds : Items) : Type 0 where
   pub deep : tree.items_depth (items_outline ds) ≤ n
   pub utf8 : (later : Bool) → IsUtf8 (items_text later ds)
 
-comma_utf8 : (later : Bool) → IsUtf8 (comma_if later)
+pub comma_utf8 : (later : Bool) → IsUtf8 (comma_if later)
 comma_utf8 true = IsUtf8-are_ascii (44 ∷ []) refl
 comma_utf8 false = IsUtf8-are_ascii [] refl
 

@@ -15,6 +15,7 @@ use Rattle.homeo_meaning.specs.LowMeaning.{whole}
 use Rattle.homeo_meaning.specs.Schema.{schema_of}
 use Rattle.homeo_meaning.specs.Serial.{values_of}
 use Rattle.homeo_meaning.specs.Whole.{IsWhole}
+use Rattle.homeo_lform.proofs.Wholes.{ground_whole}
 use Rattle.homeo_ground.specs.Grounding.{IsCalled}
 use Rattle.homeo_ground.proofs.Called.{are_called}
 use Rattle.homeo_plan.specs.Config.{Config, total, FitsOne, Fits}
@@ -26,7 +27,6 @@ use Rattle.homeo_plan.specs.Table.{walk}
 use Rattle.homeo_plan.specs.Template.{PlannedCall, shifted, Clause}
 use Rattle.homeo_plan.proofs.AcceptedForms.{accepted_forms}
 use Rattle.homeo_plan.proofs.Covering.{template_covers}
-use Rattle.homeo_plan.proofs.GroundForms.{ground_whole}
 use Rattle.homeo_plan.proofs.PlannedCalls.{all_sites_below}
 use Rattle.homeo_plan.proofs.Wider.{wider_forms}
 use Rattle.homeo_certificate.specs.declared.verdict.Verdict.TheVariants as verdict

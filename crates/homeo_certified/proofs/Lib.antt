@@ -3,8 +3,6 @@ pub mod CertifiedCalls
 pub mod CertifiedTexts
 pub mod FormNesting
 pub mod FormedForms
-pub mod FreshBelow
-pub mod FreshNumbers
 pub mod GroundsInShape
 pub mod NoFaults
 pub mod RowsBack

@@ -14,7 +14,8 @@ use Rattle.homeo_syntax.specs.declared.low.SplitName.TheVariants as split
 use Rattle.homeo_syntax.specs.Low.{Expr, Cond, NoTest, MoreTest, Command, Commands, Skip, Assign, Write, Print, Seq, If, NoCommand, MoreCommand}
 use Rattle.homeo_meaning.specs.LowMeaning.{TempAt, DeltaAt, put, holds, exec, whole}
 use Rattle.homeo_meaning.specs.Small.{IsSmall}
-use Rattle.homeo_meaning.specs.Whole.{IsWhole, AreWhole}
+use Rattle.homeo_meaning.specs.Whole.{IsWhole}
+use Rattle.homeo_meaning.proofs.Parts.{AreWhole}
 use Rattle.homeo_plan.specs.Each.{Each, Member}
 use Rattle.homeo_plan.specs.FormSizes.{CanForm, CanCond, CanFollow}
 use Rattle.homeo_plan.specs.Limit.{form_limit}

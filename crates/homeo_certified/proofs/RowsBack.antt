@@ -10,11 +10,12 @@ use Rattle.homeo_syntax.specs.declared.phrase.Compare.TheVariants.{Less, LessEqu
 use Rattle.homeo_syntax.specs.Low.{Expr, Exprs, Literal, OfTemp, Read, Sum, Product, Neg, NoExpr, MoreExpr, Test, Cond, True, Not, Comparison, NoTest, MoreTest}
 use Rattle.homeo_meaning.specs.LowMeaning.{Location, TempAt, BaseAt, DeltaAt, location_of, same_location, put, passes, whole}
 use Rattle.homeo_plan.specs.Table.{replace, replace_all, replace_test, replace_cond, clear, clear_all, clear_test, clear_cond}
-use Rattle.homeo_plan.specs.Linear.{Linear, constant_form, add_forms, scale_form, multiply_forms, Forms, base_forms, form, sum_form, product_form}
+use Rattle.homeo_plan.specs.Linear.{Linear, constant_form, add_forms, scale_form, multiply_forms, Forms, base_forms, form}
 use Rattle.homeo_plan.specs.Atoms as plan
 use Rattle.homeo_plan.specs.FormSizes.{Numbers, CanForm, CanSum, CanProduct, CanSubtract, CanTest, CanCond}
 use Rattle.homeo_plan.proofs.Atoms.{form_at_base}
 use Rattle.homeo_plan.proofs.Cleared.{form_clear}
+use Rattle.homeo_plan.proofs.FormNumbers.{small_form}
 use Rattle.homeo_plan.proofs.Replaced.{form_replace}
 use Rattle.homeo_plan.proofs.Tables.{passes_replace, passes_clear}
 use Rattle.homeo_certificate.specs.Met.{at_zero}
@@ -32,32 +33,12 @@ zero_at_base base = fun_ext at
 
 -- ---- numbers
 module _ (P : ℤ → Type 0) where
-  mutual
-    unfolding plan_definitions
-
-    -- those of the form itself are met
-    form_numbers : (f : Forms) (e : Expr) → CanForm P f e → Numbers P (form f e)
-    form_numbers f (Literal n) h = h
-    form_numbers f (OfTemp t) h = h
-    form_numbers f (Read x) h = h
-    form_numbers f (Sum es) h = sum_numbers f es (constant_form (pos 0)) h
-    form_numbers f (Product es) h = product_numbers f es (constant_form (pos 1)) h
-    form_numbers f (Neg e) h = h.1
-
-    sum_numbers : (f : Forms) (es : Exprs) (a : Linear) → CanSum P f a es → Numbers P (sum_form f a es)
-    sum_numbers f NoExpr a h = h
-    sum_numbers f (MoreExpr e es) a h = sum_numbers f es (add_forms (form f e) a) h.2
-
-    product_numbers : (f : Forms) (es : Exprs) (a : Linear) → CanProduct P f a es → Numbers P (product_form f a es)
-    product_numbers f NoExpr a h = h
-    product_numbers f (MoreExpr e es) a h = product_numbers f es (multiply_forms a (form f e)) h.2
-
   subtract : (a b a' b' : Linear) → a' ≡ a → b' ≡ b → CanSubtract P a' b' → CanSubtract P a b
   subtract a b a' b' q r k = subst (λ x. CanSubtract P x b) q (subst (λ y. CanSubtract P a' y) r k)
 
   module _ (p : Location) (e : Expr) (f : Forms) (h : CanForm P f e) where
     at_place : (b : Bool) (a : Expr) (n : Linear) → CanForm P f (cond b e a) → (CanForm P f a → Numbers P n) → Numbers P (cond b (form f e) n)
-    at_place true a n k g = form_numbers f e h
+    at_place true a n k g = small_form P f e h
     at_place false a n k g = g k
 
     mutual

@@ -1,11 +1,10 @@
 -- The rows of commands in shape are in shape, and so the deltas of their atoms and needs are there.
 use Rattle.homeo_meaning.specs.Key.{definitions as meaning_definitions}
 use Rattle.homeo_plan.specs.Key.{definitions as plan_definitions}
+use Rattle.homeo_plan.proofs.Atoms.{append_each, each_true, each_false}
 use Rattle.homeo_plan.proofs.DeltaLists.{each_puts}
 use Rattle.homeo_certificate.specs.Key.{definitions}
-use Rattle.std.proofs.Common.{◌≡◌, ℕ, suc, ◌==◌, ◌<◌, ◌^◌, Bool, true, false, cond, List, [], ◌∷◌, ◌++◌, ℤ, pos, negsuc, refl, sym, ap, subst}
-use Rattle.homeo_syntax.specs.declared.phrase.Compare.{Compare}
-use Rattle.homeo_syntax.specs.declared.phrase.Compare.TheVariants.{Less, LessEqual, Equal}
+use Rattle.std.proofs.Common.{◌≡◌, ℕ, suc, ◌==◌, ◌<◌, ◌^◌, Bool, true, false, cond, List, [], ◌∷◌, ℤ, pos, negsuc, refl, sym, ap, subst}
 use Rattle.homeo_syntax.specs.declared.low.SplitName.{SplitName}
 use Rattle.homeo_syntax.specs.declared.low.SplitName.TheVariants as split
 use Rattle.homeo_syntax.specs.Low.{Expr, Exprs, Literal, OfTemp, Read, Sum, Product, Neg, NoExpr, MoreExpr, Test, Cond, True, Not, Comparison, NoTest, MoreTest, Command, Commands, Skip, Assign, Write, Print, Seq, If, NoCommand, MoreCommand}
@@ -13,7 +12,7 @@ use Rattle.homeo_meaning.specs.LowMeaning.{Location, TempAt, DeltaAt, State, loc
 use Rattle.homeo_plan.specs.Each.{Each}
 use Rattle.homeo_plan.specs.declared.forms.Delta.{Delta}
 use Rattle.homeo_plan.specs.Linear.{delta_of, Linear, constant_form, add_forms, scale_form, support, Forms, base_forms, form}
-use Rattle.homeo_plan.specs.Atoms.{difference, true_comparison, false_comparison, true_test, false_test, true_cond, false_cond}
+use Rattle.homeo_plan.specs.Atoms.{difference, true_test, false_test, true_cond, false_cond}
 use Rattle.homeo_plan.specs.Needs.{remote, written_needs, add_written, needs_from}
 use Rattle.homeo_plan.specs.Table.{Row, replace, replace_all, replace_test, replace_cond, both, otherwise, test_before, clear, clear_all, clear_test, clear_cond, last_row, walk_before, walk_all_before, walk}
 use Rattle.homeo_certificate.specs.Nodes.{expr_count, test_count}
@@ -152,24 +151,6 @@ module _ (n k : ℕ) where
       formed_add (DeltaInShape n k) (constant_form m) (add_forms a (scale_form (negsuc 0) b)) (formed_constant (DeltaInShape n k) m)
       (formed_add (DeltaInShape n k) a (scale_form (negsuc 0) b) h (formed_scale (DeltaInShape n k) (negsuc 0) b g))
 
-  true_formed : (op : Compare) (a b : Linear) → IsFormed a → IsFormed b → Each IsFormed (true_comparison op a b)
-  unfolding plan_definitions
-  true_formed Less a b h g = (difference_formed a b (pos 1) h g, tt)
-  true_formed LessEqual a b h g = (difference_formed a b (pos 0) h g, tt)
-  true_formed Equal a b h g = (difference_formed a b (pos 0) h g, (difference_formed b a (pos 0) g h, tt))
-
-  false_formed : (op : Compare) (v : Bool) (a b : Linear) → IsFormed a → IsFormed b → Each IsFormed (false_comparison op v a b)
-  unfolding plan_definitions
-  false_formed Less v a b h g = (difference_formed b a (pos 0) g h, tt)
-  false_formed LessEqual v a b h g = (difference_formed b a (pos 1) g h, tt)
-  false_formed Equal true a b h g = (difference_formed a b (pos 1) h g, tt)
-  false_formed Equal false a b h g = (difference_formed b a (pos 1) g h, tt)
-
-  each_both : {X : Type 0} (Q : X → Type 0) (xs ys : List X) → Each Q xs → Each Q ys → Each Q (xs ++ ys)
-  unfolding plan_definitions
-  each_both Q [] ys h g = g
-  each_both Q (x ∷ xs) ys h g = (h.0, each_both Q xs ys h.1 g)
-
   module _ (b : ℕ → ℤ) where
     formed_at : (e : Expr) → ExprInShape n k e → IsFormed (form (base_forms b) e)
     formed_at e s = expr_formed (DeltaInShape n k) n k (λ d h. h) (base_forms b) (base_formed (DeltaInShape n k) n k (λ d h. h) b) e s
@@ -180,16 +161,16 @@ module _ (n k : ℕ) where
       true_test_formed : (t : Test) → TestInShape n k t → Each IsFormed (true_test b t)
       true_test_formed True s = tt
       true_test_formed (Not c) s = false_cond_formed c s.1
-      true_test_formed (Comparison op x y) s = true_formed op _ _ (formed_at x s.0) (formed_at y s.1)
+      true_test_formed (Comparison op x y) s = each_true IsFormed difference_formed op _ _ (formed_at x s.0) (formed_at y s.1)
 
       false_test_formed : (t : Test) → TestInShape n k t → Each IsFormed (false_test b t)
       false_test_formed True s = tt
       false_test_formed (Not c) s = true_cond_formed c s.1
-      false_test_formed (Comparison op x y) s = false_formed op _ _ _ (formed_at x s.0) (formed_at y s.1)
+      false_test_formed (Comparison op x y) s = each_false IsFormed difference_formed op _ _ _ (formed_at x s.0) (formed_at y s.1)
 
       pub true_cond_formed : (c : Cond) → CondInShape n k c → Each IsFormed (true_cond b c)
       true_cond_formed NoTest s = tt
-      true_cond_formed (MoreTest t c) s = each_both IsFormed (true_test b t) (true_cond b c) (true_test_formed t s.0) (true_cond_formed c s.1)
+      true_cond_formed (MoreTest t c) s = append_each IsFormed (true_test b t) (true_cond b c) (true_test_formed t s.0) (true_cond_formed c s.1)
 
       false_cond_formed : (c : Cond) → CondInShape n k c → Each IsFormed (false_cond b c)
       false_cond_formed NoTest s = tt

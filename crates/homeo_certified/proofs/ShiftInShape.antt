@@ -3,7 +3,8 @@ use Rattle.std.proofs.Common.{◌≡◌, ℕ, zero, suc, ◌<◌, ◌≤◌, ◌
 use Rattle.std.proofs.lemmas.Nat.{mul-le}
 use Rattle.std.proofs.lemmas.Bool.{and_parts}
 use Rattle.std.proofs.lemmas.Bool.Decides.{nat_tests}
-use Rattle.homeo_lemmas.proofs.Naturals.{product_positive, factor_le}
+use Rattle.homeo_lemmas.proofs.Naturals.{factor_le}
+use Rattle.homeo_syntax.specs.declared.low.Temp.{Temp}
 use Rattle.homeo_syntax.specs.declared.low.Temp.TheVariants as temp
 use Rattle.homeo_syntax.specs.declared.low.SplitName.TheVariants as split
 use Rattle.homeo_syntax.specs.Low.{Expr, Exprs, Literal, OfTemp, Read, Sum, Product, Neg, NoExpr, MoreExpr, Test, Cond, True, Not, Comparison, NoTest, MoreTest, Command, Commands, Skip, Assign, Write, Print, Seq, If, NoCommand, MoreCommand}
@@ -13,8 +14,11 @@ use Rattle.homeo_meaning.specs.LowWeights.{weight, sum_weight, product_weight, i
 use Rattle.homeo_meaning.specs.LowWeights as weigh
 use Rattle.homeo_meaning.specs.LowSizes.{Extent, extent, extent_all, test_extent, tests_extent, command_extent, commands_extent}
 use Rattle.homeo_meaning.specs.LowSizes as sizes
-use Rattle.homeo_meaning.specs.NamesWithin.{ExprWithin, ExprsWithin, TestWithin, CondWithin, NamesWithin, AllNamesWithin}
-use Rattle.homeo_meaning.specs.Whole.{IsWholeExpr, AreWholeExprs, IsWholeTest, IsWholeCond, IsWhole, AreWhole}
+use Rattle.homeo_meaning.specs.Everywhere.{EverywhereInExpr, EverywhereInExprs, EverywhereInTest, EverywhereInCond, Everywhere, EverywhereInAll}
+use Rattle.homeo_meaning.specs.NamesWithin.{TempWithin, NamesWithin}
+use Rattle.homeo_meaning.specs.Whole.{IsWholeName}
+use Rattle.homeo_meaning.proofs.Parts.{ExprWithin, ExprsWithin, TestWithin, CondWithin, AllNamesWithin}
+use Rattle.homeo_lform.proofs.Weights.{one_weight, one_product}
 use Rattle.homeo_plan.specs.Key.{definitions as plan_definitions}
 use Rattle.homeo_plan.specs.Split.{delta_reads, other_deltas, shift_expr, shift_exprs, shift_test, shift_cond, shift, shift_all}
 use Rattle.homeo_plan.proofs.Followed.{put_ones}
@@ -22,31 +26,39 @@ use Rattle.homeo_certificate.specs.Key.{definitions}
 use Rattle.homeo_certificate.specs.Nodes.{expr_count, test_count, command_count}
 use Rattle.homeo_certificate.specs.Shape.{IsCount, ExprInShape, ExprsInShape, TestInShape, CondInShape, CommandInShape, CommandsInShape}
 use Rattle.homeo_certified.proofs.CertificatesInShape.{word_if}
-use Rattle.homeo_certified.proofs.FreshBelow.{ExprBelow, ExprsBelow, TestBelow, CondBelow, FreshBelow, AllFreshBelow}
 
 abbrev most : ℕ
 most = 1000000000000000000
+
+-- a temporary that a certificate has room for: any name, and a fresh one below 2^32
+abbrev pub TempIn : Temp → Type 0
+TempIn (temp.Named t) = Unit {0}
+TempIn (temp.Fresh m) = m < 2 ^ 32
+
+-- whole objects, and such temporaries alone
+abbrev pub WholeIn : Command → Type 0
+WholeIn = Everywhere IsWholeName TempIn
+
+abbrev WholeInAll : Commands → Type 0
+WholeInAll = EverywhereInAll IsWholeName TempIn
+
+abbrev WholeExpr : Expr → Type 0
+WholeExpr = EverywhereInExpr IsWholeName TempIn
+
+abbrev WholeExprs : Exprs → Type 0
+WholeExprs = EverywhereInExprs IsWholeName TempIn
+
+abbrev WholeTest : Test → Type 0
+WholeTest = EverywhereInTest IsWholeName TempIn
+
+abbrev WholeCond : Cond → Type 0
+WholeCond = EverywhereInCond IsWholeName TempIn
 
 other_le : (a k : ℕ) → 1 ≤ k → a ≤ k * a
 other_le a k p = omega (arith, mul-le 1 a k a p (omega arith))
 
 -- ---- weights and sizes of what stands are at least 1
 module _ (w : Location → ℕ) (ones : (p : Location) → 1 ≤ w p) where
-  mutual
-    unfolding meaning_definitions
-
-    one_weight : (e : Expr) → 1 ≤ weight e w
-    one_weight (Literal n) = omega arith
-    one_weight (OfTemp t) = ones (TempAt t)
-    one_weight (Read x) = ones (location_of x)
-    one_weight (Sum es) = omega arith
-    one_weight (Product es) = one_product es
-    one_weight (Neg e) = one_weight e
-
-    one_product : (es : Exprs) → 1 ≤ product_weight es w
-    one_product NoExpr = omega arith
-    one_product (MoreExpr e es) = product_positive (weight e w) (product_weight es w) (one_weight e) (one_product es)
-
   -- each of them is light
   abbrev EachLight : Exprs → Type 0
   unfolding definitions
@@ -62,8 +74,8 @@ module _ (w : Location → ℕ) (ones : (p : Location) → 1 ≤ w p) where
   unfolding definitions meaning_definitions
   product_each NoExpr h = tt
   product_each (MoreExpr e es) h =
-      let first = factor_le (weight e w) (product_weight es w) (one_product es) in
-      let rest = other_le (product_weight es w) (weight e w) (one_weight e) in
+      let first = factor_le (weight e w) (product_weight es w) (one_product w ones es) in
+      let rest = other_le (product_weight es w) (weight e w) (one_weight w ones e) in
       (omega (arith, h, first), product_each es (omega (arith, h, rest)))
 
 mutual
@@ -207,27 +219,27 @@ module _ (n k names : ℕ) (few : k ≤ 16) (few_names : names ≤ 2 ^ 32) where
       unfolding definitions meaning_definitions plan_definitions
 
       expr_in :
-          (e : Expr) → IsWholeExpr e → ExprWithin n names e → ExprBelow (2 ^ 32) e → weight e w ≤ most → (extent e u).size ≤ 200000 →
+          (e : Expr) → WholeExpr e → ExprWithin n names e → weight e w ≤ most → (extent e u).size ≤ 200000 →
           ExprInShape n k (shift_expr k e)
-      expr_in (Literal v) g f r l s = word_if v (omega (arith, l))
-      expr_in (OfTemp (temp.Named m)) g f r l s = omega (arith, f, few_names)
-      expr_in (OfTemp (temp.Fresh m)) g f r l s = r
-      expr_in (Read (split.Whole x)) g f r l s =
+      expr_in (Literal v) g f l s = word_if v (omega (arith, l))
+      expr_in (OfTemp (temp.Named m)) g f l s = omega (arith, f, few_names)
+      expr_in (OfTemp (temp.Fresh m)) g f l s = g
+      expr_in (Read (split.Whole x)) g f l s =
           let c = reads_count k x 0 k in (omega (arith, c, few), (f, reads_in x 0 k f (omega arith)))
-      expr_in (Read (split.Base x)) g f r l s = absurd g
-      expr_in (Read (split.Delta x j)) g f r l s = absurd g
-      expr_in (Sum es) g f r l s =
-          (exprs_count es (omega (arith, s)), exprs_in es g f r (sum_each w ones es (omega (arith, l))) (omega (arith, s)))
-      expr_in (Product es) g f r l s =
-          (exprs_count es (omega (arith, s)), exprs_in es g f r (product_each w ones es l) (omega (arith, s)))
-      expr_in (Neg e) g f r l s = expr_in e g f r l (omega (arith, s))
+      expr_in (Read (split.Base x)) g f l s = absurd g
+      expr_in (Read (split.Delta x j)) g f l s = absurd g
+      expr_in (Sum es) g f l s =
+          (exprs_count es (omega (arith, s)), exprs_in es g f (sum_each w ones es (omega (arith, l))) (omega (arith, s)))
+      expr_in (Product es) g f l s =
+          (exprs_count es (omega (arith, s)), exprs_in es g f (product_each w ones es l) (omega (arith, s)))
+      expr_in (Neg e) g f l s = expr_in e g f l (omega (arith, s))
 
       exprs_in :
-          (es : Exprs) → AreWholeExprs es → ExprsWithin n names es → ExprsBelow (2 ^ 32) es → EachLight w ones es → (extent_all es u).size ≤ 200000 →
+          (es : Exprs) → WholeExprs es → ExprsWithin n names es → EachLight w ones es → (extent_all es u).size ≤ 200000 →
           ExprsInShape n k (shift_exprs k es)
-      exprs_in NoExpr g f r l s = tt
-      exprs_in (MoreExpr e es) g f r l s =
-          (expr_in e g.0 f.0 r.0 l.0 (omega (arith, s)), exprs_in es g.1 f.1 r.1 l.1 (omega (arith, s)))
+      exprs_in NoExpr g f l s = tt
+      exprs_in (MoreExpr e es) g f l s =
+          (expr_in e g.0 f.0 l.0 (omega (arith, s)), exprs_in es g.1 f.1 l.1 (omega (arith, s)))
 
     light_weight : (e : Expr) → is_light_expr most e w ≡ true → weight e w ≤ most
     unfolding meaning_definitions
@@ -237,69 +249,69 @@ module _ (n k names : ℕ) (few : k ≤ 16) (few_names : names ≤ 2 ^ 32) where
       unfolding definitions meaning_definitions plan_definitions
 
       test_in :
-          (t : Test) → IsWholeTest t → TestWithin n names t → TestBelow (2 ^ 32) t → is_light_test most t w ≡ true → (test_extent t u).size ≤ 200000 →
+          (t : Test) → WholeTest t → TestWithin n names t → is_light_test most t w ≡ true → (test_extent t u).size ≤ 200000 →
           TestInShape n k (shift_test k t)
-      test_in True g f r l s = tt
-      test_in (Not c) g f r l s =
+      test_in True g f l s = tt
+      test_in (Not c) g f l s =
           let a = tests_few u some c in let b = tests_same k c in
-          (omega (arith, a, b, s), cond_in c g f r l (omega (arith, s)))
-      test_in (Comparison op a b) g f r l s =
+          (omega (arith, a, b, s), cond_in c g f l (omega (arith, s)))
+      test_in (Comparison op a b) g f l s =
           let p = and_parts (is_light_expr most a w) _ l in
-          (expr_in a g.0 f.0 r.0 (light_weight a p.0) (omega (arith, s)), expr_in b g.1 f.1 r.1 (light_weight b p.1) (omega (arith, s)))
+          (expr_in a g.0 f.0 (light_weight a p.0) (omega (arith, s)), expr_in b g.1 f.1 (light_weight b p.1) (omega (arith, s)))
 
       cond_in :
-          (c : Cond) → IsWholeCond c → CondWithin n names c → CondBelow (2 ^ 32) c → is_light_cond most c w ≡ true → (tests_extent c u).size ≤ 200000 →
+          (c : Cond) → WholeCond c → CondWithin n names c → is_light_cond most c w ≡ true → (tests_extent c u).size ≤ 200000 →
           CondInShape n k (shift_cond k c)
-      cond_in NoTest g f r l s = tt
-      cond_in (MoreTest t c) g f r l s =
+      cond_in NoTest g f l s = tt
+      cond_in (MoreTest t c) g f l s =
           let p = and_parts (is_light_test most t w) _ l in
-          (test_in t g.0 f.0 r.0 p.0 (omega (arith, s)), cond_in c g.1 f.1 r.1 p.1 (omega (arith, s)))
+          (test_in t g.0 f.0 p.0 (omega (arith, s)), cond_in c g.1 f.1 p.1 (omega (arith, s)))
 
   module _ (i : ℕ) (inside : i < k) where
-    temp_in : (t : _) (e : Expr) → NamesWithin n names (Assign t e) → FreshBelow (2 ^ 32) (Assign t e) → CommandInShape n k (Assign t (Literal (pos 0)))
+    temp_in : (t : _) (e : Expr) → TempIn t → TempWithin n names t → CommandInShape n k (Assign t (Literal (pos 0)))
     unfolding definitions meaning_definitions
-    temp_in (temp.Named m) e f r = (omega (arith, f.0, few_names), word_if (pos 0) (omega arith))
-    temp_in (temp.Fresh m) e f r = (r.0, word_if (pos 0) (omega arith))
+    temp_in (temp.Named m) e g f = (omega (arith, f, few_names), word_if (pos 0) (omega arith))
+    temp_in (temp.Fresh m) e g f = (g, word_if (pos 0) (omega arith))
 
     mutual
       unfolding definitions meaning_definitions plan_definitions
 
       pub command_in :
-          (c : Command) (w : Location → ℕ) → ((p : Location) → 1 ≤ w p) → (u : Location → Extent) → Sized u → IsWhole c → NamesWithin n names c →
-          FreshBelow (2 ^ 32) c → is_light most c w ≡ true → (command_extent k c u).size ≤ 200000 → CommandInShape n k (shift k i c)
-      command_in Skip w o u z g f r l s = tt
-      command_in (Assign t e) w o u z g f r l s =
-          ((temp_in t e f r).0, expr_in w o u z e g f.1 r.1 (light_weight w o u z e l) (omega (arith, s)))
-      command_in (Write (split.Whole x) e) w o u z g f r l s =
+          (c : Command) (w : Location → ℕ) → ((p : Location) → 1 ≤ w p) → (u : Location → Extent) → Sized u → WholeIn c → NamesWithin n names c →
+          is_light most c w ≡ true → (command_extent k c u).size ≤ 200000 → CommandInShape n k (shift k i c)
+      command_in Skip w o u z g f l s = tt
+      command_in (Assign t e) w o u z g f l s =
+          ((temp_in t e g.0 f.0).0, expr_in w o u z e g.1 f.1 (light_weight w o u z e l) (omega (arith, s)))
+      command_in (Write (split.Whole x) e) w o u z g f l s =
           let c = others_count k i x 0 k in (
             (f.0, inside),
             (
               omega (arith, c, few),
-              (expr_in w o u z e g.1 f.1 r (light_weight w o u z e l) (omega (arith, s)), (f.0, others_in i x 0 k f.0 (omega arith))),
+              (expr_in w o u z e g.1 f.1 (light_weight w o u z e l) (omega (arith, s)), (f.0, others_in i x 0 k f.0 (omega arith))),
             ),
           )
-      command_in (Write (split.Base x) e) w o u z g f r l s = absurd g.0
-      command_in (Write (split.Delta x j) e) w o u z g f r l s = absurd g.0
-      command_in (Print e) w o u z g f r l s = expr_in w o u z e g f r (light_weight w o u z e l) (omega (arith, s))
-      command_in (Seq cs) w o u z g f r l s =
+      command_in (Write (split.Base x) e) w o u z g f l s = absurd g.0
+      command_in (Write (split.Delta x j) e) w o u z g f l s = absurd g.0
+      command_in (Print e) w o u z g f l s = expr_in w o u z e g f (light_weight w o u z e l) (omega (arith, s))
+      command_in (Seq cs) w o u z g f l s =
           let a = commands_few k cs u in let b = commands_same k i cs in
-          (omega (arith, a, b, s), commands_in cs w o u z g f r l (omega (arith, s)))
-      command_in (If b c d) w o u z g f r l s =
+          (omega (arith, a, b, s), commands_in cs w o u z g f l (omega (arith, s)))
+      command_in (If b c d) w o u z g f l s =
           let p = and_parts (is_light_cond most b w) _ l in
           let q = and_parts (is_light most c w) _ p.1 in
           let a = tests_few u z b in let e = tests_same k b in (
             omega (arith, a, e, s),
-            cond_in w o u z b g.0 f.0 r.0 p.0 (omega (arith, s)),
-            command_in c w o u z g.1 f.1 r.1 q.0 (omega (arith, s)),
-            command_in d w o u z g.2 f.2 r.2 q.1 (omega (arith, s)),
+            cond_in w o u z b g.0 f.0 p.0 (omega (arith, s)),
+            command_in c w o u z g.1 f.1 q.0 (omega (arith, s)),
+            command_in d w o u z g.2 f.2 q.1 (omega (arith, s)),
           )
 
       commands_in :
-          (cs : Commands) (w : Location → ℕ) → ((p : Location) → 1 ≤ w p) → (u : Location → Extent) → Sized u → AreWhole cs → AllNamesWithin n names cs →
-          AllFreshBelow (2 ^ 32) cs → are_light most cs w ≡ true → (commands_extent k cs u).size ≤ 200000 → CommandsInShape n k (shift_all k i cs)
-      commands_in NoCommand w o u z g f r l s = tt
-      commands_in (MoreCommand c cs) w o u z g f r l s =
+          (cs : Commands) (w : Location → ℕ) → ((p : Location) → 1 ≤ w p) → (u : Location → Extent) → Sized u → WholeInAll cs → AllNamesWithin n names cs →
+          are_light most cs w ≡ true → (commands_extent k cs u).size ≤ 200000 → CommandsInShape n k (shift_all k i cs)
+      commands_in NoCommand w o u z g f l s = tt
+      commands_in (MoreCommand c cs) w o u z g f l s =
           let p = and_parts (is_light most c w) _ l in (
-            command_in c w o u z g.0 f.0 r.0 p.0 (omega (arith, s)),
-            commands_in cs (weigh.after c w) (ones_after c w o) (sizes.after k c u) (sized_after k c u z) g.1 f.1 r.1 p.1 (omega (arith, s)),
+            command_in c w o u z g.0 f.0 p.0 (omega (arith, s)),
+            commands_in cs (weigh.after c w) (ones_after c w o) (sizes.after k c u) (sized_after k c u z) g.1 f.1 p.1 (omega (arith, s)),
           )

@@ -16,6 +16,7 @@ use Rattle.homeo_syntax.proofs.low.LExpr.TheLaws.TheKnot as low_expression
 use Rattle.homeo_syntax.proofs.low.LTest.TheLaws.TheKnot as low_test
 use Rattle.homeo_syntax.proofs.phrase.Expr.TheLaws.TheKnot as phrase
 use Rattle.homeo_meaning.specs.contracts.accepted.Accepted as Accepted
+use Rattle.homeo_meaning.specs.contracts.findings.Findings as Findings
 use Rattle.homeo_outline.specs.contracts.plan.ObjectPlan as ObjectPlan
 use Rattle.homeo_context.specs.contracts.declarations.Declarations as Declarations
 use Rattle.homeo_ground.specs.contracts.grounding.Grounding as Grounding
@@ -36,11 +37,17 @@ use Rattle.homeo_cluster.specs.contracts.frame.Frame as Frame
 pub captures-sync : (ν : Sym) (A B C D : RattleType) → IsSync A → IsSync B → IsSync C → IsSync D → IsSync (TupleAt ν (A ∷ B ∷ C ∷ D ∷ []))
 captures-sync ν A B C D a b c d = search sendable depth 60
 
+Findings-send : IsSend Findings.the_row
+Findings-send = search (std.crosses, low_expression.crosses, low_test.crosses, low_command.crosses, list.the_send, sendable) depth 60 fits 20000
+
+Findings-sync : IsSync Findings.the_row
+Findings-sync = search (std.crosses, low_expression.crosses, low_test.crosses, low_command.crosses, list.the_sync, sendable) depth 60 fits 20000
+
 Accepted-send : IsSend Accepted.the_row
-Accepted-send = search (std.crosses, phrase.crosses, command.crosses, list.the_send, sendable) depth 60 fits 20000
+Accepted-send = let f = Findings-send in search (std.crosses, phrase.crosses, command.crosses, list.the_send, sendable) depth 60 fits 20000
 
 Accepted-sync : IsSync Accepted.the_row
-Accepted-sync = search (std.crosses, phrase.crosses, command.crosses, list.the_sync, sendable) depth 60 fits 20000
+Accepted-sync = let f = Findings-sync in search (std.crosses, phrase.crosses, command.crosses, list.the_sync, sendable) depth 60 fits 20000
 
 Declarations-send : IsSend Declarations.the_row
 Declarations-send = search (std.crosses, list.the_send, sendable) depth 60

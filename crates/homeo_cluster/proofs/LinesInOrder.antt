@@ -6,7 +6,7 @@ use Rattle.homeo_plan.specs.Planned.{sites_of}
 use Rattle.homeo_history.specs.Legal.{IsClientAt}
 use Rattle.homeo_meaning.specs.Acceptance.{IsAccepted}
 use Rattle.homeo_site.proofs.Limits.{few_sites}
-use Rattle.homeo_core.proofs.FewClients.{clients_few}
+use Rattle.homeo_meaning.proofs.FewClients.{clients_few}
 use Rattle.homeo_cluster.specs.Places.{is_less, is_same, one_for, earlier, homes, below, kept_line, done_line, shut_line, at_line, bases_line, line_count}
 use Rattle.homeo_cluster.specs.inner.Begun.{before, first_line}
 use Rattle.homeo_cluster.proofs.Apart.{in_block, split_all}

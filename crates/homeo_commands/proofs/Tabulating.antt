@@ -39,7 +39,7 @@ use Rattle.homeo_print.specs.Tables.{call_table, row_text, rows_text, table_text
 use Rattle.homeo_print.proofs.OneMore.{numbered_more}
 use Rattle.homeo_commands.specs.inner.Key.{definitions}
 use Rattle.homeo_commands.specs.inner.Tabulated.{HasFewRows, AddsJoint, calls_text, rows_from}
-use Rattle.homeo_order.proofs.Accepting.{few_from}
+use Rattle.homeo_meaning.proofs.FewClients.{few_from}
 use Rattle.homeo_table.proofs.RowCounting.{some_rows}
 
 -- ---- each call names a transaction

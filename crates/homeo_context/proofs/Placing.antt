@@ -15,7 +15,7 @@ use Rattle.homeo_meaning.specs.Key.{definitions}
 use Rattle.homeo_meaning.specs.Schema.{Relation, declared_range, declared_relation, nat_of}
 use Rattle.homeo_meaning.specs.Context.{object_count}
 use Rattle.homeo_context.specs.Placed.{placed_relation, StandFrom, HasSlots}
-use Rattle.homeo_meaning.proofs.SoundRelations.{SlotsFit}
+use Rattle.homeo_meaning.proofs.SoundRelations.{SlotsFit, count_grows}
 
 -- ---- slots as the code counts them
 size_is : (v : ℤ) → 1 ≤ nat_of v → unsigned_abs v ≡ nat_of v
@@ -33,11 +33,6 @@ have_slots (r ∷ rs) h =
     All-cons HasSlots r rs (record { least = here.least; most = here.most }) (have_slots rs (All-tail SlotsFit (declared_relation (plain_relation r)) (map declared_relation (map plain_relation rs)) h))
 
 -- ---- how many objects there are
-count_least : (k : ℕ) (rs : List Relation) → k ≤ object_count k rs
-unfolding definitions
-count_least k [] = omega arith
-count_least k (r ∷ rs) = let h : k + r.slots * (1 + length r.fields) ≤ object_count (k + r.slots * (1 + length r.fields)) rs = count_least (k + r.slots * (1 + length r.fields)) rs in omega arith
-
 count_both : (k : ℕ) (rs qs : List Relation) → object_count k (rs ++ qs) ≡ object_count (object_count k rs) qs
 unfolding definitions
 count_both k [] qs = refl
@@ -61,7 +56,7 @@ next_few first rs i r ps next h p placed at few =
     let rest : List RelationDecl = drop (i + 1) rs in
     let split : map declared rs ≡ map declared taken ++ map declared rest = ap (map declared) (sym (take-append-drop (i + 1) rs)) ∙ map-append declared taken rest in
     let whole : object_count first (map declared_relation (map plain_relation rs)) ≡ object_count (object_count first (map declared taken)) (map declared rest) = ap (object_count first) (map-map declared_relation plain_relation rs ∙ split) ∙ count_both first (map declared taken) (map declared rest) in
-    let part : object_count first (map declared taken) ≤ object_count (object_count first (map declared taken)) (map declared rest) = count_least (object_count first (map declared taken)) (map declared rest) in
+    let part : object_count first (map declared taken) ≤ object_count (object_count first (map declared taken)) (map declared rest) = count_grows (object_count first (map declared taken)) (map declared rest) in
     let step : object_count first (map declared taken) ≡ next + nat_of r.slots.value * (1 + length r.fields.items) = ap (object_count first) (map_take_more declared rs i r h p) ∙ count_more first (map declared (take i rs)) (declared r) ∙ (λ j. (ap (object_count first) (sym placed) ∙ sym at) j + declared_width r j) in
     omega arith
 

@@ -19,7 +19,7 @@ pub record Nothing (k : ℕ) (rs : List Placed) (n : ℕ) : Type 0 where
   pub slots : find_slots k (map placed_relation rs) n ≡ []
   pub fields : find_fields (map placed_relation rs) n ≡ []
 
-place_least : (j : ℕ) (ms : List ℕ) (n : ℕ) → j ≤ place_from j ms n
+pub place_least : (j : ℕ) (ms : List ℕ) (n : ℕ) → j ≤ place_from j ms n
 unfolding definitions
 place_least j [] n = omega arith
 place_least j (m ∷ ms) n = by_case (m == n) (place_least (suc j) ms n)

@@ -60,7 +60,7 @@ begun_at count base i x e =
     record { is = ap (λ j. begun j 0 base) (sym same) ∙ was.1.1; lt = h.lt }
 
 -- ---- no calls
-no_entries : (base : List ℤ) (ns : List ℕ) → flat_map (λ (es : List Entry). es) (map (λ (x : SiteState). x.segment) (map (λ i. begun i 0 base) ns)) ≡ []
+pub no_entries : (base : List ℤ) (ns : List ℕ) → flat_map (λ (es : List Entry). es) (map (λ (x : SiteState). x.segment) (map (λ i. begun i 0 base) ns)) ≡ []
 unfolding site_definitions
 no_entries base [] = refl
 no_entries base (n ∷ ns) = no_entries base ns
@@ -116,7 +116,7 @@ unfolding definitions
 none_of w = All-nil (λ (s : SiteValue). s.work ≡ w)
 
 -- ---- the list of no calls is followed
-no_length : (base : List ℤ) (ns : List ℕ) → sum (map length (map (λ (x : SiteState). x.segment) (map (λ i. begun i 0 base) ns))) ≡ 0
+pub no_length : (base : List ℤ) (ns : List ℕ) → sum (map length (map (λ (x : SiteState). x.segment) (map (λ i. begun i 0 base) ns))) ≡ 0
 unfolding site_definitions
 no_length base [] = refl
 no_length base (n ∷ ns) =

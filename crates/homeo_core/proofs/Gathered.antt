@@ -12,7 +12,7 @@ use Rattle.homeo_meaning.specs.Serial.{values_of, database_like}
 use Rattle.homeo_plan.specs.Joined.{Deltas, folded}
 use Rattle.homeo_plan.specs.Split.{sum_from}
 use Rattle.homeo_plan.proofs.Sums.{sum_same, sum_next}
-use Rattle.homeo_history.proofs.ValueLists.{like_itself}
+use Rattle.homeo_meaning.proofs.ValueLists.{like_itself}
 use Rattle.homeo_site.specs.SiteState.{SiteState}
 use Rattle.homeo_round.specs.PlusDeltas.{plus_deltas}
 use Rattle.homeo_round.proofs.Added.{plus_at, plus_length}

@@ -30,7 +30,7 @@ with_open b sites client =
     ∙ ap (λ xs. answers_to client (answers_of 0 b.closed) ++ answers_to client xs) (append-nil (local_answers (length b.closed) 0 (segments_of sites)))
 
 module _ (w : s.Workload) (start : List ℤ) (b : BookState) (sites : List SiteState) (accepted : IsAccepted w) (joined : AreJoined w start b sites) where
-  framed : IsFramed w start (rounds_of b sites)
+  pub framed : IsFramed w start (rounds_of b sites)
   unfolding definitions
   framed = record {
     starts = first_is b.closed (open_round b.base sites) ∙ ap Some joined.book.starts;
@@ -38,12 +38,12 @@ module _ (w : s.Workload) (start : List ℤ) (b : BookState) (sites : List SiteS
     closed = only_last b.closed (open_round b.base sites) joined.book.closed refl;
   }
 
-  at_sites : All (IsAtSites w) (rounds_of b sites)
+  pub at_sites : All (IsAtSites w) (rounds_of b sites)
   unfolding definitions
   at_sites =
       All-push (IsAtSites w) b.closed (open_round b.base sites) joined.book.at_sites (record { segments = open_round_facts.calls_at w start b sites accepted joined; closing = tt })
 
-  runs : RunsTo w (open_round b.base sites) (gathered b.base sites)
+  pub runs : RunsTo w (open_round b.base sites) (gathered b.base sites)
   unfolding definitions history_definitions
   runs = record { after = gathered b.base sites; merges = open_round_facts.merges w start b sites accepted joined; closes = refl }
 

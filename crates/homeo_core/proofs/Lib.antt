@@ -3,7 +3,6 @@ pub mod CallsMade
 pub mod ClosingCalls
 pub mod CoreStarts
 pub mod CoreSteps
-pub mod FewClients
 pub mod Following
 pub mod Gathered
 pub mod GatheredSites

@@ -1,5 +1,4 @@
 pub mod DeltaReads
-pub mod Folds
 pub mod Following
 pub mod ShiftedPlaces
 pub mod Shifts
@@ -7,3 +6,4 @@ pub mod SmallShifts
 pub mod SmallSites
 pub mod SmallSums
 pub mod SmallValues
+pub mod ValuesFrom

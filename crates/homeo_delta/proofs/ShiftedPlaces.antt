@@ -5,8 +5,9 @@ use Rattle.std.proofs.lemmas.Bool.Decides.{nat_tests}
 use Rattle.homeo_syntax.specs.declared.low.SplitName.TheVariants.{Whole, Base, Delta}
 use Rattle.homeo_syntax.specs.Low.{Command, Commands, Skip, Assign, Write, Print, Seq, If, NoCommand, MoreCommand}
 use Rattle.homeo_meaning.specs.Key.{definitions as meaning_definitions}
-use Rattle.homeo_meaning.specs.NamesWithin.{NamesWithin, AllNamesWithin}
-use Rattle.homeo_meaning.specs.Whole.{IsWhole, AreWhole}
+use Rattle.homeo_meaning.specs.NamesWithin.{NamesWithin}
+use Rattle.homeo_meaning.specs.Whole.{IsWhole}
+use Rattle.homeo_meaning.proofs.Parts.{AreWhole, AllNamesWithin}
 use Rattle.homeo_plan.specs.Key.{definitions}
 use Rattle.homeo_plan.specs.Split.{shift, shift_all}
 use Rattle.homeo_split.specs.Key.{definitions as split_definitions}

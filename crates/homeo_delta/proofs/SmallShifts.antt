@@ -8,7 +8,8 @@ use Rattle.homeo_meaning.specs.Key.{definitions as meaning_definitions}
 use Rattle.homeo_meaning.specs.LowComputed.{CanValue, CanSum, CanProduct, CanPass, CanHold, CanRun, CanRunAll}
 use Rattle.homeo_meaning.specs.LowMeaning.{TempAt, BaseAt, DeltaAt, State, value, passes, holds, exec}
 use Rattle.homeo_meaning.specs.Small.{IsSmall, is_small}
-use Rattle.homeo_meaning.specs.Whole.{IsWholeExpr, AreWholeExprs, IsWholeTest, IsWholeCond, IsWhole, AreWhole}
+use Rattle.homeo_meaning.specs.Whole.{IsWhole}
+use Rattle.homeo_meaning.proofs.Parts.{IsWholeExpr, AreWholeExprs, IsWholeTest, IsWholeCond, AreWhole}
 use Rattle.homeo_plan.specs.Key.{definitions}
 use Rattle.homeo_plan.specs.Split.{fold_state, shift_expr, shift_exprs, shift_test, shift_cond, shift, shift_all}
 use Rattle.homeo_plan.proofs.Shift.{value_shift, shift_follows}
@@ -90,7 +91,7 @@ module _ (k i a b : ℕ) (site : i < k) (some : 1 ≤ b) where
 
       run_fits : (c : Command) (s : State) → HasSmallParts k i a b s → IsWhole c → CanRun (IsSmall b) (IsSmall b) c (fold_state k s) → can_exec run_limit (shift k i c) s ≡ true
       run_fits Skip s h w r = refl
-      run_fits (Assign t e) s h w r = value_fits e s h w r
+      run_fits (Assign t e) s h w r = value_fits e s h w.1 r
       run_fits (Write (Whole x) e) s h w r =
           write_fits k i a b site within s h x (shift_expr k e) (value_fits e s h w.1 r)
           (subst (λ v. unsigned_abs v ≤ b) (sym (value_shift k e s w.1)) (value_small b some e (fold_state k s) r))

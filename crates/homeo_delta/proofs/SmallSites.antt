@@ -5,7 +5,7 @@ use Rattle.std.proofs.lemmas.Int.{ints}
 use Rattle.std.proofs.lemmas.Nat.{mul-le}
 use Rattle.std.proofs.lemmas.Bool.Decides.{nat_tests}
 use Rattle.homeo_lemmas.proofs.Bools.{both}
-use Rattle.homeo_lemmas.proofs.Integers.{abs_neg}
+use Rattle.homeo_lemmas.proofs.Integers.{abs_neg, abs_add}
 use Rattle.homeo_syntax.specs.declared.low.SplitName.TheVariants.{Whole, Base, Delta}
 use Rattle.homeo_syntax.specs.Low.{Expr, Exprs, Read, Sum, Neg, MoreExpr}
 use Rattle.homeo_meaning.specs.Key.{definitions as meaning_definitions}
@@ -16,7 +16,7 @@ use Rattle.homeo_plan.specs.Split.{sum_from, delta_reads, other_deltas, shift_re
 use Rattle.homeo_split.specs.Key.{definitions as split_definitions}
 use Rattle.homeo_split.specs.CanExec.{run_limit, expr_fits, sum_fits}
 use Rattle.homeo_delta.specs.SmallParts.{HasSmallParts}
-use Rattle.homeo_delta.proofs.SmallSums.{abs_add, abs_part, sum_small}
+use Rattle.homeo_delta.proofs.SmallSums.{abs_part, sum_small}
 
 -- a part of a sum is as large as the sum and the other parts
 abs_middle : (x y z : ℤ) → unsigned_abs y ≤ unsigned_abs (x +ℤ (y +ℤ z)) + (unsigned_abs x + unsigned_abs z)

@@ -7,7 +7,8 @@ use Rattle.homeo_meaning.specs.Key.{definitions}
 use Rattle.homeo_meaning.specs.LowComputed.{CanValue, CanSum, CanProduct, CanRun, CanRunAll}
 use Rattle.homeo_meaning.specs.LowMeaning.{BaseAt, State, Run, value, sum_value, product_value, holds, exec, exec_all}
 use Rattle.homeo_meaning.specs.Small.{IsSmall}
-use Rattle.homeo_meaning.specs.Whole.{IsWhole, AreWhole}
+use Rattle.homeo_meaning.specs.Whole.{IsWhole}
+use Rattle.homeo_meaning.proofs.Parts.{AreWhole}
 
 module _ (b : ℕ) (some : 1 ≤ b) where
   mutual

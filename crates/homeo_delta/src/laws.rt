@@ -1,6 +1,6 @@
 //! What is true of all transformed commands.
 
-ghost use Rattle.std.specs.Prelude.{◌≡◌, ◌<◌, ◌≤◌, ◌+◌, ◌*◌, ℕ, true, length, slice_index_or};
+ghost use Rattle.std.specs.Prelude.{◌≡◌, ◌<◌, ◌≤◌, ◌+◌, ◌*◌, ℕ, true, slice_index_or};
 ghost use Rattle.homeo_syntax.specs.Low.{Command};
 ghost use Rattle.homeo_meaning.specs.LowComputed.{CanRun};
 ghost use Rattle.homeo_meaning.specs.LowMeaning.{State, exec};
@@ -10,9 +10,6 @@ ghost use Rattle.homeo_meaning.specs.Whole.{IsWhole};
 ghost use Rattle.homeo_plan.specs.Split.{fold_state, shift};
 ghost use Rattle.homeo_split.specs.CanExec.{run_limit, can_exec};
 ghost use Rattle.homeo_split.specs.Shape.{Shape, has_places};
-ghost use Rattle.homeo_split.specs.States.{state_of};
-ghost use Rattle.homeo_split.specs.declared.split.Split.{Split};
-ghost use Rattle.homeo_delta.specs.Folding.{SumsFit};
 ghost use Rattle.homeo_delta.specs.SmallParts.{HasSmallParts};
 
 /// A transformed command can be run on a split database where the given one computes small numbers on the fold: where each
@@ -26,12 +23,6 @@ pub fn transformed_commands_can_run()
     ensures leaves { (sites site a b : ℕ) (c : Command) (s : State) → site < sites → 1 ≤ b →
         IsWhole c → HasSmallParts sites site a b s → CanRun (IsSmall b) (IsSmall b) c (fold_state sites s) →
         HasSmallParts sites site a b (exec (shift sites site c) s).state }
-{}
-
-/// A split database whose parts are so small can be folded.
-pub fn small_parts_can_be_folded()
-    ensures { (site a b : ℕ) (s : Split) → site < length s.deltas.items → b + length s.deltas.items * a ≤ run_limit →
-        HasSmallParts (length s.deltas.items) site a b (state_of s) → SumsFit s }
 {}
 
 /// A transformed command writes only places that are there, where the given one names whole objects only and the site has a

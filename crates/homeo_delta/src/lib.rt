@@ -1,10 +1,8 @@
-//! Commands and databases over sites: the delta transform of a command, and the fold of a split database.
+//! Commands over sites: the delta transform of a command.
 #![tactic(auto)]
 
 mod commands;
-mod folding;
 pub mod laws;
 mod reads;
 
 pub use commands::transform;
-pub use folding::fold;

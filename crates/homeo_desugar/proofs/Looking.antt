@@ -28,7 +28,7 @@ use Rattle.homeo_meaning.proofs.SoundRelations.{objects-fit}
 use Rattle.homeo_desugar.specs.inner.Key.{definitions as desugar_definitions}
 use Rattle.homeo_meaning.specs.CallForm.{body_form, ground_form}
 use Rattle.homeo_desugar.specs.inner.Made.{AreFormed}
-use Rattle.homeo_desugar.specs.inner.Numbers.{SchemaFits}
+use Rattle.homeo_desugar.specs.SchemaFits.{SchemaFits}
 
 -- ---- a transaction by its number
 in_list : (ts : List Transaction) (n : ℕ) → IsSome (slice_get (map plain_transaction ts) n) → n < length ts

@@ -1,19 +1,12 @@
 -- The places of names, and how many objects there are.
-use Rattle.std.proofs.Common.{◌≡◌, ℕ, suc, ◌+◌, ◌*◌, ◌^◌, ◌<◌, ◌≤◌, ◌==◌, cond, Bool, true, false, List, [], ◌∷◌, map, length, arith}
+use Rattle.std.proofs.Common.{◌≡◌, ℕ, suc, ◌+◌, ◌^◌, ◌<◌, ◌≤◌, ◌==◌, cond, Bool, true, false, List, [], ◌∷◌, map, length, arith}
 use Rattle.std.proofs.lemmas.List.{length-map}
 use Rattle.homeo_syntax.specs.declared.workload.RangeDecl.{RangeDecl}
 use Rattle.homeo_meaning.specs.Key.{definitions}
-use Rattle.homeo_meaning.specs.Schema.{Declared, Relation, Schema, declared_range}
-use Rattle.homeo_meaning.specs.Context.{spot, spot_from, object_count}
-use Rattle.homeo_desugar.specs.inner.Numbers.{SchemaFits}
-
--- there are no fewer objects than stand before a relation
-pub count_least : (k : ℕ) (rs : List Relation) → k ≤ object_count k rs
-unfolding definitions
-count_least k [] = omega arith
-count_least k (r ∷ rs) =
-    let h : k + r.slots * (1 + length r.fields) ≤ object_count (k + r.slots * (1 + length r.fields)) rs = count_least (k + r.slots * (1 + length r.fields)) rs in
-    omega arith
+use Rattle.homeo_meaning.specs.Schema.{Declared, Schema, declared_range}
+use Rattle.homeo_meaning.specs.Context.{spot, spot_from}
+use Rattle.homeo_meaning.proofs.SoundRelations.{count_grows}
+use Rattle.homeo_desugar.specs.SchemaFits.{SchemaFits}
 
 -- ---- a name's place is not past the declarations
 spot_least : (k : ℕ) (ds : List Declared) (n : ℕ) → (spot_from k ds n).place ≤ k + length ds
@@ -38,5 +31,5 @@ field_within ds n place e =
 pub place_fits : (x : Schema) (n place : ℕ) → SchemaFits x → place ≡ (spot x.objects n).place → place < 2 ^ 32
 place_fits x n place few e =
     let h = place_within x.objects n in
-    let least = count_least (length x.objects) x.relations in
+    let least = count_grows (length x.objects) x.relations in
     omega arith

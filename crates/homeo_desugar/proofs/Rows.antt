@@ -10,7 +10,8 @@ use Rattle.homeo_context.proofs.Rows.{rows_inside, rows_outside}
 use Rattle.homeo_meaning.specs.Key.{definitions as meaning_definitions}
 use Rattle.homeo_meaning.specs.Context.{Slot, Context, bind, object_count}
 use Rattle.homeo_meaning.specs.Declarations.{Declarations}
-use Rattle.homeo_desugar.specs.inner.Numbers.{IsLow, SchemaFits, Fits}
+use Rattle.homeo_desugar.specs.SchemaFits.{SchemaFits}
+use Rattle.homeo_desugar.specs.inner.Numbers.{IsLow, Fits}
 
 -- ---- one more row
 low_row : (b : Bool) (slot row : Slot) → IsLow slot → IsLow row → IsLow (cond b slot row)

@@ -10,7 +10,7 @@ ghost use Rattle.homeo_meaning.specs.Aborts.{hold_abort};
 ghost use Rattle.homeo_meaning.specs.LForm.{body_by, l_form};
 ghost use Rattle.homeo_meaning.specs.SameRun.{MeansCall};
 ghost use Rattle.homeo_context.specs.Contexts.{call_context};
-ghost use Rattle.homeo_desugar.specs.inner.Numbers.{SchemaFits};
+ghost use Rattle.homeo_desugar.specs.SchemaFits.{SchemaFits};
 
 use crate::forming::form_all;
 use crate::undoing::{first_behind, objects_written, undoing};
@@ -53,8 +53,13 @@ fn form_body<'a>(
     undoing(alloc, saved.as_slice(), commands)
 }
 
-/// The L form of a transaction with these arguments.
-fn form_transaction(
+/// The L form of a transaction with these arguments, in the order of its parameters: nothing else is asked of either.
+/// `declared` has the places of the names that the transaction may use, and their objects fit the numbers of an L form.
+///
+/// # Errors
+///
+/// `Memory` where memory is wanting.
+pub fn form_call(
     alloc: Global,
     declared: &Declarations,
     t: &Transaction,
@@ -87,5 +92,5 @@ pub fn desugar(
 {
     let workload = w.workload();
     let transaction = find(workload, call.transaction);
-    form_transaction(alloc, declared, transaction, call.args.as_slice())
+    form_call(alloc, declared, transaction, call.args.as_slice())
 }

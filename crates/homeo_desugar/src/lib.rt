@@ -10,4 +10,4 @@ mod making;
 mod objects;
 mod undoing;
 
-pub use call::desugar;
+pub use call::{desugar, form_call};

@@ -7,7 +7,6 @@ use Rattle.homeo_syntax.specs.LowView.{low_exprs, plain_lexpr}
 use Rattle.homeo_syntax.specs.Low as l
 use Rattle.homeo_syntax.specs.declared.low.LExpr.{LExpr}
 use Rattle.homeo_meaning.specs.Key.{definitions as meaning_definitions}
-use Rattle.homeo_meaning.specs.LowMeaning.{State}
 use Rattle.homeo_meaning.specs.Small.{is_small}
 use Rattle.homeo_meaning.proofs.Steps.{drop_next}
 use Rattle.homeo_split.specs.Key.{definitions as split_definitions}
@@ -18,15 +17,16 @@ use Rattle.homeo_effect.specs.inner.Alone.{SumFits, ProductFits}
 use Rattle.homeo_effect.specs.inner.Literals.{literal_of}
 use Rattle.homeo_effect.proofs.Literals.{literal_is, no_sum, no_product}
 
-first_small : (b : ℕ) (es : l.Exprs) (s : State) (n : ℤ) → sum_fits b n es s ≡ true → is_small b n ≡ true
-unfolding split_definitions
-first_small b l.NoExpr s n h = h
-first_small b (l.MoreExpr e es) s n h = (and_parts (is_small b n) _ h).0
+-- what a sum or a product begins with is small
+sum_begins : (n : ℤ) (ts : l.Exprs) → SumFits n ts → is_small run_limit n ≡ true
+unfolding definitions split_definitions
+sum_begins n l.NoExpr f = f.1
+sum_begins n (l.MoreExpr e ts) f = (and_parts (is_small run_limit n) _ f.1).0
 
-first_product_small : (b : ℕ) (es : l.Exprs) (s : State) (n : ℤ) → product_fits b n es s ≡ true → is_small b n ≡ true
-unfolding split_definitions
-first_product_small b l.NoExpr s n h = h
-first_product_small b (l.MoreExpr e es) s n h = (and_parts (is_small b n) _ h).0
+product_begins : (n : ℤ) (ts : l.Exprs) → ProductFits n ts → is_small run_limit n ≡ true
+unfolding definitions split_definitions
+product_begins n l.NoExpr f = f.1
+product_begins n (l.MoreExpr e ts) f = (and_parts (is_small run_limit n) _ f.1).0
 
 -- n and k, and then the rest
 pub record SumStep (n k : ℤ) (es : List LExpr) (i : ℕ) : Type 0 where
@@ -51,7 +51,7 @@ module _ (es : List LExpr) (i : ℕ) (e : LExpr) (h : i < length es) (p : e ≡ 
       let is = next ∙ ap (λ d. l.MoreExpr d rest) (literal_is (plain_lexpr e) k q) in
       let g : sum_fits run_limit n (l.MoreExpr (l.Literal k) rest) f.0 ≡ true = subst (λ ts. sum_fits run_limit n ts f.0 ≡ true) is f.1 in
       let more = (and_parts (is_small run_limit k) _ (and_parts (is_small run_limit n) _ g).1).1 in
-      record { small = first_small run_limit rest f.0 (n +ℤ k) more; fits = (f.0, more); same = ap (literal_sum n) (sym is) }
+      record { small = sum_begins (n +ℤ k) rest (f.0, more); fits = (f.0, more); same = ap (literal_sum n) (sym is) }
 
   pub sum_ends : (n : ℤ) → None ≡ literal_of (plain_lexpr e) → None ≡ literal_sum n (low_exprs (map plain_lexpr (drop i es)))
   sum_ends n q = sym (ap (literal_sum n) next ∙ no_sum (plain_lexpr e) _ n q)
@@ -63,7 +63,7 @@ module _ (es : List LExpr) (i : ℕ) (e : LExpr) (h : i < length es) (p : e ≡ 
       let is = next ∙ ap (λ d. l.MoreExpr d rest) (literal_is (plain_lexpr e) k q) in
       let g : product_fits run_limit n (l.MoreExpr (l.Literal k) rest) f.0 ≡ true = subst (λ ts. product_fits run_limit n ts f.0 ≡ true) is f.1 in
       let more = (and_parts (is_small run_limit k) _ (and_parts (is_small run_limit n) _ g).1).1 in
-      record { small = first_product_small run_limit rest f.0 (n *ℤ k) more; fits = (f.0, more); same = ap (literal_product n) (sym is) }
+      record { small = product_begins (n *ℤ k) rest (f.0, more); fits = (f.0, more); same = ap (literal_product n) (sym is) }
 
   pub product_ends : (n : ℤ) → None ≡ literal_of (plain_lexpr e) → None ≡ literal_product n (low_exprs (map plain_lexpr (drop i es)))
   product_ends n q = sym (ap (literal_product n) next ∙ no_product (plain_lexpr e) _ n q)

@@ -5,7 +5,8 @@ use Rattle.std.proofs.Common.{◌≡◌, ℕ, Bool, true, false, cond, List, [],
 use Rattle.homeo_syntax.specs.declared.low.SplitName.TheVariants.{Whole, Base, Delta}
 use Rattle.homeo_syntax.specs.Low.{Command, Commands, Skip, Assign, Write, Print, Seq, If, NoCommand, MoreCommand}
 use Rattle.homeo_meaning.specs.LowMeaning.{TempAt, State, location_of, holds, exec}
-use Rattle.homeo_meaning.specs.Whole.{IsWhole, AreWhole}
+use Rattle.homeo_meaning.specs.Whole.{IsWhole}
+use Rattle.homeo_meaning.proofs.Parts.{AreWhole}
 use Rattle.homeo_plan.specs.Each.{Each}
 use Rattle.homeo_plan.specs.Split.{shift, shift_all}
 use Rattle.homeo_plan.specs.Table.{Row, set_before, print_before, test_before, otherwise, before, all_before, clear_row, last_row, table, walk_before, walk_all_before, walk}

@@ -1,5 +1,5 @@
 -- From an accepted workload to its calls.
-use Rattle.std.proofs.Common.{◌≡◌, ℕ, suc, ◌+◌, ◌<◌, ◌≤◌, Bool, true, false, cond, ℤ, pos, Option, Some, List, [], ◌∷◌, ◌++◌, map, length, drop, get_or, refl, sym, ap, ◌∙◌, subst, arith, add-one, append_assoc, drop_of_length-le}
+use Rattle.std.proofs.Common.{◌≡◌, ℕ, ◌+◌, ◌<◌, ◌≤◌, Bool, true, false, cond, ℤ, pos, Option, Some, List, [], ◌∷◌, ◌++◌, map, length, drop, get_or, refl, sym, ap, ◌∙◌, subst, add-one, append_assoc, drop_of_length-le}
 use Rattle.std.proofs.Math.Seq.{drop-cons}
 use Rattle.std.specs.Prelude.{slice_get}
 use Rattle.std.proofs.lemmas.List.{append-nil}
@@ -23,30 +23,16 @@ use Rattle.homeo_meaning.specs.Declarations.{Declarations, declarations, place_o
 use Rattle.homeo_eval.specs.inner.States.{run_of}
 use Rattle.homeo_context.specs.Contexts.{call_context}
 use Rattle.homeo_meaning.specs.Serial.{start}
-use Rattle.homeo_meaning.specs.Serial.{values_of, values_from, database_like, call_of, transaction_named, arguments, outcome_at, outcome_of, call_outcome, serial}
+use Rattle.homeo_meaning.specs.Serial.{values_of, database_like, call_of, transaction_named, arguments, outcome_at, outcome_of, call_outcome, serial}
 use Rattle.homeo_eval.proofs.Fits.{runs_fit}
 use Rattle.homeo_lform.proofs.Light.{light_law}
 use Rattle.homeo_lform.proofs.Stays.{bounds_law}
 use Rattle.homeo_meaning.proofs.Sound.{IsSound}
 use Rattle.homeo_eval.proofs.States.{state_with}
+use Rattle.homeo_meaning.proofs.ValueLists.{like_itself}
 use Rattle.homeo_meaning.proofs.Within.{all_within, list_in}
 use Rattle.homeo_meaning.proofs.LightCalls.{call_light}
 use Rattle.homeo_meaning.proofs.TransactionPlaces.{transaction_place}
-
--- the values of a list are the list
-values_list : (xs : List ℤ) (k : ℕ) (f : ℕ → ℤ) → ((i : ℕ) → f (k + i) ≡ get_or xs i (pos 0)) → values_from k (length xs) f ≡ xs
-values_list [] k f h = refl
-values_list (x ∷ xs) k f h =
-    let first : k ≡ k + 0 = omega arith in
-    let next : (j : ℕ) → suc k + j ≡ k + suc j = λ j. omega arith in
-    (λ i. (ap f first ∙ h 0) i ∷ values_list xs (suc k) f (λ j. ap f (next j) ∙ h (suc j)) i)
-
-pub like_itself : (base xs : List ℤ) (f : ℕ → ℤ) → length xs ≡ length base → values_of xs ≡ f → xs ≡ database_like base f
-unfolding definitions
-like_itself base xs f e p =
-    let same : (i : ℕ) → 0 + i ≡ i = λ i. omega arith in
-    sym (values_list xs 0 (values_of xs) (λ i. ap (values_of xs) (same i)))
-    ∙ (λ i. values_from 0 (e i) (p i))
 
 -- a context by its schema and what it gives to names
 abbrev with_arguments : Schema → (ℕ → Option ℤ) → Context
@@ -100,9 +86,9 @@ transaction_runs w t place args d given cs db e g p q light within =
     subst (λ d. TransactionRuns w place args d given cs db) (sym p) (subst (λ cs. TransactionRuns w place args (declarations w) given cs db) (sym q) (own_body w t place args given db e g light within))
 
 -- a run from an empty list of prints
-pub body_ran : (d : Declarations) (given : List Argument) (cs : s.Commands) (db copy temps ps qs : List ℤ) (r : State) (v : Bool) → copy ≡ db → temps ≡ [] → qs ≡ [] → run_of r ps v ≡ after_prints qs (does_all (call_context d given) cs (state_with copy temps)) → run_of r ps v ≡ does_all (call_context d given) cs (start db)
+pub body_ran : (d : Declarations) (given : List Argument) (cs : s.Commands) (db copy : List ℤ) (temps : ℕ → ℤ) (ps qs : List ℤ) (r : State) (v : Bool) → copy ≡ db → ((n : ℕ) → temps n ≡ pos 0) → qs ≡ [] → run_of r ps v ≡ after_prints qs (does_all (call_context d given) cs (state_with copy temps)) → run_of r ps v ≡ does_all (call_context d given) cs (start db)
 unfolding definitions
-body_ran d given cs db copy temps ps qs r v p q z e = e ∙ (λ i. after_prints (z i) (does_all (call_context d given) cs (state_with (p i) (q i))))
+body_ran d given cs db copy temps ps qs r v p q z e = e ∙ (λ i. after_prints (z i) (does_all (call_context d given) cs (state_with (p i) (λ n. q n i))))
 
 -- the database after a call that goes on to its end, and after one that is ended
 pub settles_on : (after : Run) (s : State) (ps : List ℤ) (v : Bool) (db xs : List ℤ) → run_of s ps v ≡ after → v ≡ false → length xs ≡ length db → values_of xs ≡ s.database → xs ≡ database_like db (cond after.ended (values_of db) after.state.database)
@@ -118,9 +104,9 @@ settles_back after s ps v db xs e ended same =
     let up : after.ended ≡ true = sym (ap (λ (r : Run). r.ended) e) ∙ ended in
     same ∙ like_itself db db (cond after.ended (values_of db) after.state.database) refl (sym (ap (λ w. cond w (values_of db) after.state.database) up))
 
-pub body_starts : (db copy temps : List ℤ) → copy ≡ db → temps ≡ [] → start db ≡ state_with copy temps
+pub body_starts : (db copy : List ℤ) (temps : ℕ → ℤ) → copy ≡ db → ((n : ℕ) → temps n ≡ pos 0) → start db ≡ state_with copy temps
 unfolding definitions
-body_starts db copy temps p q = sym (λ i. state_with (p i) (q i))
+body_starts db copy temps p q = sym (λ i. state_with (p i) (λ n. q n i))
 
 -- a client's call, by the place of its transaction
 pub record PlacedCall (w : s.Workload) (id : CallId) (place : ℕ) (args : List ℤ) : Type 0 where

@@ -1,7 +1,8 @@
 -- The first of the phrases that a loop has left.
-use Rattle.std.proofs.Common.{◌≡◌, ℕ, ◌+◌, ◌<◌, ◌≤◌, ℤ, ◌+ℤ◌, ◌*ℤ◌, true, ◌&&◌, List, map, drop, get_or, length, sym, ap, ◌∙◌}
+use Rattle.std.proofs.Common.{◌≡◌, ℕ, ◌+◌, ◌<◌, ◌≤◌, ℤ, ◌+ℤ◌, ◌*ℤ◌, Bool, true, ◌&&◌, List, [], ◌∷◌, map, drop, get_or, length, sym, ap, ◌∙◌, subst}
 use Rattle.std.proofs.lemmas.Bool.{and_parts}
 use Rattle.homeo_lemmas.proofs.Lists.{map_drop_past}
+use Rattle.homeo_syntax.specs.Source as source
 use Rattle.homeo_syntax.specs.SourceView.{exprs, tests, plain_expr, plain_test}
 use Rattle.homeo_syntax.specs.declared.phrase.Expr.{Expr}
 use Rattle.homeo_syntax.specs.declared.phrase.Test.{Test}
@@ -12,39 +13,53 @@ use Rattle.homeo_eval.specs.inner.CanRun.{expr_fits, sum_fits, product_fits, tes
 use Rattle.homeo_eval.proofs.Equations.{sum_end, sum_more, sum_fits_more, product_end, product_more, product_fits_more, holds_more, cond_fits_more}
 use Rattle.homeo_meaning.proofs.Steps.{drop_next}
 
--- one more term of a sum
-pub record SumStep (b : ℕ) (x : Context) (s : State) (n : ℤ) (es : List Expr) (i : ℕ) (e : Expr) : Type 0 where
-  pub first : expr_fits b x (plain_expr e) s ≡ true
-  pub small : is_small b (n +ℤ value x (plain_expr e) s) ≡ true
-  pub rest : sum_fits b x (exprs (map plain_expr (drop (i + 1) es))) s (n +ℤ value x (plain_expr e) s) ≡ true
-  pub same : sum_value x (exprs (map plain_expr (drop (i + 1) es))) s (n +ℤ value x (plain_expr e) s) ≡ sum_value x (exprs (map plain_expr (drop i es))) s n
+-- ---- sums and products, each as a fold: the number so far, and what one phrase more makes of it
+pub record IsFold (op : ℤ → ℤ → ℤ) (fits : ℕ → Context → source.Exprs → State → ℤ → Bool) (total : Context → source.Exprs → State → ℤ → ℤ) : Type 0 where
+  fits_more : (b : ℕ) (x : Context) (s : State) (n : ℤ) (e : source.Expr) (es : List source.Expr) →
+      fits b x (exprs (e ∷ es)) s n ≡ expr_fits b x e s && (is_small b (op n (value x e s)) && fits b x (exprs es) s (op n (value x e s)))
+  more : (x : Context) (s : State) (n : ℤ) (e : source.Expr) (es : List source.Expr) → total x (exprs (e ∷ es)) s n ≡ total x (exprs es) s (op n (value x e s))
+  end : (x : Context) (s : State) (n : ℤ) → total x (exprs []) s n ≡ n
 
-pub sum_step : {b : ℕ} {x : Context} {s : State} {n : ℤ} (es : List Expr) (i : ℕ) (e : Expr) → i < length es → e ≡ get_or es i e → sum_fits b x (exprs (map plain_expr (drop i es))) s n ≡ true → SumStep b x s n es i e
-sum_step {b} {x} {s} {n} es i e h p fits =
-    let next = drop_next plain_expr es i e h p in
-    let k = and_parts _ _ (sym (sum_fits_more b x s n (plain_expr e) (map plain_expr (drop (i + 1) es))) ∙ ap (λ l. sum_fits b x (exprs l) s n) (sym next) ∙ fits) in
-    let m = and_parts _ _ k.1 in
-    record { first = k.0; small = m.0; rest = m.1; same = sym (sum_more x s n (plain_expr e) (map plain_expr (drop (i + 1) es))) ∙ ap (λ l. sum_value x (exprs l) s n) (sym next) }
+pub sums : IsFold ◌+ℤ◌ sum_fits sum_value
+sums = record { fits_more = sum_fits_more; more = sum_more; end = sum_end }
 
-pub sum_stop : (x : Context) (s : State) (n : ℤ) (es : List Expr) (i : ℕ) → length es ≤ i → n ≡ sum_value x (exprs (map plain_expr (drop i es))) s n
-sum_stop x s n es i h = sym (ap (λ l. sum_value x (exprs l) s n) (map_drop_past plain_expr es i h) ∙ sum_end x s n)
+pub products : IsFold ◌*ℤ◌ product_fits product_value
+products = record { fits_more = product_fits_more; more = product_more; end = product_end }
 
--- one more factor of a product
-pub record ProductStep (b : ℕ) (x : Context) (s : State) (n : ℤ) (es : List Expr) (i : ℕ) (e : Expr) : Type 0 where
-  pub first : expr_fits b x (plain_expr e) s ≡ true
-  pub small : is_small b (n *ℤ value x (plain_expr e) s) ≡ true
-  pub rest : product_fits b x (exprs (map plain_expr (drop (i + 1) es))) s (n *ℤ value x (plain_expr e) s) ≡ true
-  pub same : product_value x (exprs (map plain_expr (drop (i + 1) es))) s (n *ℤ value x (plain_expr e) s) ≡ product_value x (exprs (map plain_expr (drop i es))) s n
+module _ {op : ℤ → ℤ → ℤ} {fits : ℕ → Context → source.Exprs → State → ℤ → Bool} {total : Context → source.Exprs → State → ℤ → ℤ} (fold : IsFold op fits total) where
+  -- the phrases from a place on
+  abbrev From : List Expr → ℕ → source.Exprs
+  From es i = exprs (map plain_expr (drop i es))
 
-pub product_step : {b : ℕ} {x : Context} {s : State} {n : ℤ} (es : List Expr) (i : ℕ) (e : Expr) → i < length es → e ≡ get_or es i e → product_fits b x (exprs (map plain_expr (drop i es))) s n ≡ true → ProductStep b x s n es i e
-product_step {b} {x} {s} {n} es i e h p fits =
-    let next = drop_next plain_expr es i e h p in
-    let k = and_parts _ _ (sym (product_fits_more b x s n (plain_expr e) (map plain_expr (drop (i + 1) es))) ∙ ap (λ l. product_fits b x (exprs l) s n) (sym next) ∙ fits) in
-    let m = and_parts _ _ k.1 in
-    record { first = k.0; small = m.0; rest = m.1; same = sym (product_more x s n (plain_expr e) (map plain_expr (drop (i + 1) es))) ∙ ap (λ l. product_value x (exprs l) s n) (sym next) }
+  -- one phrase more
+  pub record Step (b : ℕ) (x : Context) (s : State) (n : ℤ) (es : List Expr) (i : ℕ) (e : Expr) : Type 0 where
+    pub first : expr_fits b x (plain_expr e) s ≡ true
+    pub small : is_small b (op n (value x (plain_expr e) s)) ≡ true
+    pub rest : fits b x (From es (i + 1)) s (op n (value x (plain_expr e) s)) ≡ true
+    pub same : total x (From es (i + 1)) s (op n (value x (plain_expr e) s)) ≡ total x (From es i) s n
 
-pub product_stop : (x : Context) (s : State) (n : ℤ) (es : List Expr) (i : ℕ) → length es ≤ i → n ≡ product_value x (exprs (map plain_expr (drop i es))) s n
-product_stop x s n es i h = sym (ap (λ l. product_value x (exprs l) s n) (map_drop_past plain_expr es i h) ∙ product_end x s n)
+  pub step : {b : ℕ} {x : Context} {s : State} {n : ℤ} (es : List Expr) (i : ℕ) (e : Expr) → i < length es → e ≡ get_or es i e →
+      fits b x (From es i) s n ≡ true → Step b x s n es i e
+  step {b} {x} {s} {n} es i e h p fit =
+      let next = drop_next plain_expr es i e h p in
+      let others = map plain_expr (drop (i + 1) es) in
+      let k = and_parts _ _ (sym (fold.fits_more b x s n (plain_expr e) others) ∙ ap (λ l. fits b x (exprs l) s n) (sym next) ∙ fit) in
+      let m = and_parts _ _ k.1 in
+      record {
+        first = k.0;
+        small = m.0;
+        rest = m.1;
+        same = sym (fold.more x s n (plain_expr e) others) ∙ ap (λ l. total x (exprs l) s n) (sym next);
+      }
+
+  -- the number so far with one phrase more
+  pub step_next : {b : ℕ} {x : Context} {s : State} {n m : ℤ} {es : List Expr} {i : ℕ} {e : Expr} → Step b x s n es i e → m ≡ op n (value x (plain_expr e) s) →
+      (fits b x (From es (i + 1)) s m ≡ true) × (total x (From es (i + 1)) s m ≡ total x (From es i) s n)
+  step_next {b} {x} {s} {n} {m} {es} {i} {e} k p =
+      (subst (λ v. fits b x (From es (i + 1)) s v ≡ true) (sym p) k.rest, ap (total x (From es (i + 1)) s) p ∙ k.same)
+
+  pub stop : (x : Context) (s : State) (n : ℤ) (es : List Expr) (i : ℕ) → length es ≤ i → n ≡ total x (From es i) s n
+  stop x s n es i h = sym (ap (λ l. total x (exprs l) s n) (map_drop_past plain_expr es i h) ∙ fold.end x s n)
 
 -- one more test of a condition
 pub record TestStep (b : ℕ) (x : Context) (s : State) (ts : List Test) (i : ℕ) (t : Test) : Type 0 where

@@ -16,7 +16,7 @@ ghost use Rattle.homeo_meaning.specs.Serial.{database_like, call_of, call_outcom
 use crate::commands::run_all;
 use crate::state::State;
 use homeo_context::{Argument, BoundRows, Context, Declarations, argument_values, bind};
-use homeo_meaning::{Accepted, CallId, Database};
+use homeo_meaning::{Accepted, CallId, Database, Window};
 use homeo_syntax::{Call, Command, List, Memory, Prints, Workload};
 use std::alloc::Global;
 
@@ -48,7 +48,7 @@ fn run_body(
 {
     let mut state = State {
         database: copied(alloc, base.as_slice())?,
-        temps: Vec::new(alloc),
+        temps: Window::new(alloc),
     };
     let rows = BoundRows::Outside {
         objects: state.database.len(),

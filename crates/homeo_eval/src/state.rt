@@ -7,14 +7,15 @@ ghost use Rattle.homeo_eval.specs.inner.States.{state_of, IsZeroPast};
 ghost use Rattle.homeo_context.specs.Slots.{plain_spot, plain_slot};
 
 use homeo_context::{Slot, Spot, find_field};
-use homeo_meaning::padded::{item_or, put};
+use homeo_meaning::Window;
+use homeo_meaning::padded::item_or;
 use homeo_syntax::Memory;
 
 /// The values of the objects, by number, and of the temporaries, by the numbers of their names.
 #[derive(Drop)]
 pub(crate) struct State {
     pub(crate) database: Vec<i64>,
-    pub(crate) temps: Vec<i64>,
+    pub(crate) temps: Window<i64>,
 }
 
 impl State {
@@ -22,7 +23,7 @@ impl State {
     pub(crate) fn temp(&self, name: u32) -> i64
         ensures { result ≡ (state_of self.now).temps name }
     {
-        item_or(self.temps.as_slice(), name as usize, 0)
+        self.temps.get(name as usize, 0)
     }
 
     #[tactic(auto, unfolding(homeo_meaning::specs::Key::definitions))]
@@ -72,8 +73,7 @@ impl State {
         ensures places { length self.new.database.items ≡ length self.old.database.items }
         ensures set { OnOk result (state_of self.new ≡ set_temp (state_of self.old) name v) }
     {
-        put(&mut self.temps, name as usize, v, 0)?;
-        Ok(())
+        self.temps.put(name as usize, v, 0)
     }
 
     /// Sets an object: where there is none of this number, to 0.

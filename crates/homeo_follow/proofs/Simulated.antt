@@ -9,7 +9,8 @@ use Rattle.homeo_syntax.specs.declared.phrase.Compare.TheVariants.{Less, LessEqu
 use Rattle.homeo_syntax.specs.declared.low.SplitName.TheVariants.{Whole, Base, Delta}
 use Rattle.homeo_syntax.specs.Low.{Expr, Exprs, Literal, OfTemp, Read, Sum, Product, Neg, NoExpr, MoreExpr, Test, Cond, True, Not, Comparison, NoTest, MoreTest, Command, Commands, Skip, Assign, Write, Print, Seq, If, NoCommand, MoreCommand}
 use Rattle.homeo_meaning.specs.Meaning.{compared}
-use Rattle.homeo_meaning.specs.Whole.{IsWholeExpr, AreWholeExprs, IsWholeTest, IsWholeCond, IsWhole, AreWhole}
+use Rattle.homeo_meaning.specs.Whole.{IsWhole}
+use Rattle.homeo_meaning.proofs.Parts.{IsWholeExpr, AreWholeExprs, IsWholeTest, IsWholeCond, AreWhole}
 use Rattle.homeo_plan.specs.Split.{shift_expr, shift_exprs, shift_test, shift_cond, shift, shift_all}
 use Rattle.homeo_plan.specs.Linear.{Linear, constant_form, add_forms, scale_form, multiply_forms, Forms, form, sum_form, product_form}
 use Rattle.homeo_plan.specs.Atoms.{difference, true_comparison, false_comparison}
@@ -181,7 +182,7 @@ module _ (k i : ℕ) (inside : i < k) (b : ℕ → ℤ) where
     pub follows : (c : Command) → IsWhole c → (f g : Forms) → Stand f g → Follows (follow (shift k i c) f) (follow c g)
     follows Skip w f g h = record { atoms = are_none; prints = are_none; written = refl; forms = h }
     follows (Assign t e) w f g h =
-        let r = form_is f g h e w in
+        let r = form_is f g h e w.1 in
         record { atoms = are_none; prints = are_none; written = refl; forms = stands_temp k i inside b f g h t (form f (shift_expr k e)) (form g e) r.tidy r.same }
     follows (Write (Whole x) e) w f g h =
         let r = form_is f g h e w.1 in

@@ -4,13 +4,11 @@ use Rattle.homeo_plan.specs.Key.{definitions as plan_definitions}
 use Rattle.homeo_follow.specs.Key.{definitions}
 use Rattle.std.proofs.Common.{◌≡◌, ℕ, Bool, true, false, cond, List, [], ◌∷◌, ◌++◌, map, ℤ, pos, negsuc, neg_ℤ, ◌+ℤ◌, ◌*ℤ◌, int_lt, refl, sym, ap, ap₂, ◌∙◌, arith}
 use Rattle.std.proofs.lemmas.Int.{ints}
-use Rattle.homeo_syntax.specs.declared.phrase.Compare.{Compare}
-use Rattle.homeo_syntax.specs.declared.phrase.Compare.TheVariants.{Less, LessEqual, Equal}
 use Rattle.homeo_syntax.specs.declared.low.SplitName.{SplitName}
 use Rattle.homeo_syntax.specs.declared.low.SplitName.TheVariants.{Whole, Base, Delta}
 use Rattle.homeo_syntax.specs.Low.{Expr, Exprs, Literal, OfTemp, Read, Sum, Product, Neg, NoExpr, MoreExpr, Test, Cond, True, Not, Comparison, NoTest, MoreTest, Command, Commands, Skip, Assign, Write, Print, Seq, If, NoCommand, MoreCommand}
 use Rattle.homeo_meaning.specs.LowMeaning.{Location, TempAt, BaseAt, DeltaAt, location_of, same_location, put}
-use Rattle.homeo_plan.specs.Atoms.{difference, true_comparison, false_comparison}
+use Rattle.homeo_plan.specs.Atoms.{difference}
 use Rattle.homeo_plan.specs.Each.{Each}
 use Rattle.homeo_plan.specs.declared.forms.Term.{Term}
 use Rattle.homeo_plan.specs.Linear.{Linear, constant_form, add_forms, scale_form, is_pure, mix_forms, multiply_forms, Forms, form, sum_form, product_form}
@@ -18,7 +16,7 @@ use Rattle.homeo_follow.specs.Brought.{brought}
 use Rattle.homeo_follow.specs.Follow.{passes_by, holds_by, passed_test, failed_test, passed, failed, Followed, asked, object_of, follow, follow_all, object_forms, followed, needed}
 use Rattle.homeo_follow.specs.Named.{named_in_expr, named_in_exprs, named_in_test, named_in_cond, named, named_in_all}
 use Rattle.homeo_follow.specs.Rebased.{gained, rebased_form, rebased, gains}
-use Rattle.homeo_plan.proofs.Atoms.{each_append as each_parts, append_each}
+use Rattle.homeo_plan.proofs.Atoms.{each_append as each_parts, append_each, each_true, each_false}
 use Rattle.homeo_follow.proofs.Staying.{parts_stay}
 use Rattle.homeo_follow.proofs.Terms.{OfEach, each_adds, each_scale}
 
@@ -51,19 +49,6 @@ module _ (P : ℕ → Type 0) where
   unfolding plan_definitions
   difference_of a c n h k =
       add_of (constant_form n) (add_forms a (scale_form (negsuc 0) c)) tt (add_of a (scale_form (negsuc 0) c) h (scale_of (negsuc 0) c k))
-
-  true_of : (op : Compare) (a c : Linear) → IsOf a → IsOf c → Each IsOf (true_comparison op a c)
-  unfolding plan_definitions
-  true_of Less a c h k = (difference_of a c (pos 1) h k, tt)
-  true_of LessEqual a c h k = (difference_of a c (pos 0) h k, tt)
-  true_of Equal a c h k = (difference_of a c (pos 0) h k, (difference_of c a (pos 0) k h, tt))
-
-  false_of : (op : Compare) (v : Bool) (a c : Linear) → IsOf a → IsOf c → Each IsOf (false_comparison op v a c)
-  unfolding plan_definitions
-  false_of Less v a c h k = (difference_of c a (pos 0) k h, tt)
-  false_of LessEqual v a c h k = (difference_of c a (pos 1) k h, tt)
-  false_of Equal v a c h k =
-      (either IsOf v (difference a c (pos 1)) (difference c a (pos 1)) (difference_of a c (pos 1) h k) (difference_of c a (pos 1) k h), tt)
 
   -- ---- at each place that may be named
   abbrev MayBeNamed : Location → Type 0
@@ -122,14 +107,14 @@ module _ (P : ℕ → Type 0) where
       passed_test_of (Not c) w = failed_of c w
       passed_test_of (Comparison op x y) w =
           let parts = each_parts P (named_in_expr x) (named_in_expr y) w in
-          true_of op (form f x) (form f y) (form_of x parts.0) (form_of y parts.1)
+          each_true IsOf difference_of op (form f x) (form f y) (form_of x parts.0) (form_of y parts.1)
 
       failed_test_of : (t : Test) → Each P (named_in_test t) → Each IsOf (failed_test f t)
       failed_test_of True w = tt
       failed_test_of (Not c) w = passed_of c w
       failed_test_of (Comparison op x y) w =
           let parts = each_parts P (named_in_expr x) (named_in_expr y) w in
-          false_of op (int_lt (form f x).constant (form f y).constant) (form f x) (form f y) (form_of x parts.0) (form_of y parts.1)
+          each_false IsOf difference_of op (int_lt (form f x).constant (form f y).constant) (form f x) (form f y) (form_of x parts.0) (form_of y parts.1)
 
       passed_of : (c : Cond) → Each P (named_in_cond c) → Each IsOf (passed f c)
       passed_of NoTest w = tt

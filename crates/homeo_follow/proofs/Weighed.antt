@@ -21,7 +21,7 @@ use Rattle.homeo_meaning.specs.Small.{IsSmall}
 use Rattle.homeo_meaning.proofs.LightCalls.{ground_call_light}
 use Rattle.homeo_meaning.proofs.Sound.{sound}
 use Rattle.homeo_meaning.proofs.Within.{all_within}
-use Rattle.homeo_lform.proofs.Light.{weight_small, size_at}
+use Rattle.homeo_lform.proofs.Light.{weight_small, size_at, one_at}
 use Rattle.homeo_plan.specs.Limit.{form_limit}
 use Rattle.homeo_plan.proofs.GroundNumbers.{values_small}
 use Rattle.homeo_plan.specs.Each.{Each}
@@ -29,9 +29,9 @@ use Rattle.homeo_plan.specs.declared.forms.Term.{Term}
 use Rattle.homeo_plan.specs.Linear.{Linear, constant_form, add_forms, multiply_forms, same_delta, Forms, form, sum_form, product_form}
 use Rattle.homeo_plan.specs.FormSizes.{Numbers, CanForm, CanSum, CanProduct, CanSubtract, CanTest, CanCond}
 use Rattle.homeo_plan.proofs.Sizes.{Within, numbers, wider, within_constant, within_add, within_negated, within_multiply}
-use Rattle.homeo_plan.proofs.Made.{Made, one_weight, one_product}
+use Rattle.homeo_lform.proofs.Weights.{one_weight, one_product}
+use Rattle.homeo_plan.proofs.Made.{Made}
 use Rattle.homeo_plan.proofs.MadeTests.{subtract}
-use Rattle.homeo_plan.proofs.SmallForms.{one_at}
 use Rattle.homeo_follow.specs.Follow.{holds_by, passed, failed, asked, follow, follow_all, object_delta, object_form, object_forms, followed}
 use Rattle.homeo_follow.specs.FollowSizes.{AreNumbers, CanBeFollowed, CanAllBeFollowed}
 

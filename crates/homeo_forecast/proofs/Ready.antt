@@ -31,7 +31,7 @@ pub record IsReadyAt (w : s.Workload) (base : List ℤ) (config : Config) (i : �
   pub meets : Treaty (template_at w base) config i x
   pub all : AllWithin (schema_of w) (λ n. values_of base n +ℤ x n)
 
-no_change : (b : ℕ → ℤ) → b ≡ (λ n. b n +ℤ no_deltas n)
+pub no_change : (b : ℕ → ℤ) → b ≡ (λ n. b n +ℤ no_deltas n)
 unfolding definitions
 no_change b = fun_ext (λ n. omega (arith, ints))
 

@@ -7,6 +7,7 @@ use Rattle.std.proofs.lemmas.List.{get_or-map, get_or-append_right, get_or-drop,
 use Rattle.std.proofs.lemmas.List.Edits.{map_over_more}
 use Rattle.std.specs.List.{insert, remove}
 use Rattle.std.specs.Ordering.{int_eq}
+use Rattle.homeo_lemmas.proofs.Integers.{abs_add}
 use Rattle.homeo_meaning.specs.Key.{definitions as meaning_definitions}
 use Rattle.homeo_meaning.specs.Small.{IsSmall}
 use Rattle.homeo_plan.specs.Key.{definitions as plan_definitions}
@@ -21,7 +22,6 @@ use Rattle.homeo_form.specs.inner.Terms.{AreWithin, AreSmall, AllCount, AreAdded
 use Rattle.homeo_plan.proofs.DeltaLists.{After, after_before}
 use Rattle.homeo_plan.proofs.Factors.{before_total}
 use Rattle.homeo_form.proofs.Orders.{before_is_other, before_is_one_way, each_at, take_drop, begins_at, begins_past, place_end, place_after, place_below}
-use Rattle.homeo_form.proofs.Widths.{abs_add}
 
 -- ---- deltas of terms
 pub drop_deltas : (ts : List Term) (n : ℕ) → deltas_of (drop n ts) ≡ drop n (deltas_of ts)

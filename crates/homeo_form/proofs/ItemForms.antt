@@ -18,7 +18,8 @@ use Rattle.homeo_form.specs.declared.items.Item.TheVariants as items
 use Rattle.homeo_split.specs.declared.places.Place.{Place}
 use Rattle.homeo_form.specs.inner.Items.{HasFormAt, IsItem, IsPlaceAndNumber}
 use Rattle.homeo_split.specs.Places.{plain_place}
-use Rattle.homeo_form.proofs.FormSteps.{small_form, literal_form, temp_form, read_form}
+use Rattle.homeo_plan.proofs.FormNumbers.{small_form}
+use Rattle.homeo_form.proofs.FormSteps.{literal_form, temp_form, read_form}
 
 -- ---- what stands at a place
 stands_made : (e : l.Expr) (p : Place) → ((f : Forms) → form f e ≡ f (plain_place p)) → HasFormAt (λ a. a) e p

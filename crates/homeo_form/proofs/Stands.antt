@@ -1,9 +1,11 @@
 -- What a map of places gives for each location.
-use Rattle.std.proofs.Common.{◌≡◌, ◌==◌, ◌⊎◌, inl, inr, ℕ, [], ◌∷◌, Bool, true, false, cond, Option, Some, None, ℤ, pos, negsuc, ◌+ℤ◌, ◌*ℤ◌, refl, sym, ap, ◌∙◌, subst}
+use Rattle.std.proofs.Common.{◌≡◌, ◌==◌, ◌⊎◌, inl, inr, ℕ, [], ◌∷◌, Bool, true, false, cond, Option, Some, None, ℤ, pos, negsuc, ◌+ℤ◌, ◌*ℤ◌, refl, sym, ap, ◌∙◌, subst, arith}
+use Rattle.std.proofs.lemmas.Int.{ints}
 use Rattle.std.proofs.Math.IntN.{+ℤ_idl, +ℤ_idr}
 use Rattle.std.specs.HashMap.{get, get_by}
 use Rattle.std.specs.Map.{lookup}
 use Rattle.std.specs.Option.{unwrap_or}
+use Rattle.homeo_syntax.specs.declared.low.Temp.{Temp}
 use Rattle.homeo_meaning.specs.Key.{definitions as meaning_definitions}
 use Rattle.homeo_meaning.specs.LowMeaning.{Location, TempAt, BaseAt, DeltaAt, same_location, put}
 use Rattle.homeo_meaning.specs.Serial.{values_of}
@@ -24,6 +26,7 @@ use Rattle.homeo_form.specs.Objects.{form_in}
 use Rattle.homeo_form.specs.Standing.{first_forms, set_at, forms_of}
 use Rattle.homeo_form.specs.declared.objects.ObjectForms.{ObjectForms}
 use Rattle.homeo_form.specs.declared.standing.Standing.{Standing}
+use Rattle.homeo_form.specs.inner.Order.{IsInOrder}
 use Rattle.homeo_form.specs.inner.Terms.{term_form, beside}
 
 choice : (b : Bool) (v d : Linear) (o : Option Linear) → unwrap_or (cond b (Some v) o) d ≡ cond b v (unwrap_or o d)
@@ -164,6 +167,35 @@ unfolding plan_definitions follow_definitions definitions
 object_with b p x n m e h =
     (λ i. record { constant = (h ∙ ap (λ k. n +ℤ k) (sym (+ℤ_idr (b x)))) i; terms = record { delta = record { object = x; site = 0 }; factor = pos 1 } ∷ []; mixed = [] })
     ∙ sym (ap (λ q. add_forms (constant_form n) (add_forms (object_forms b (plain_place q)) (constant_form (pos 0)))) e)
+
+-- ---- what stands there as a round begins, in order, and with a number behind it
+each_location : (P : Location → Type 0) → ((t : Temp) → P (TempAt t)) → ((x : ℕ) → P (BaseAt x)) → ((x j : ℕ) → P (DeltaAt x j)) → (l : Location) → P l
+each_location P f g h (TempAt t) = f t
+each_location P f g h (BaseAt x) = g x
+each_location P f g h (DeltaAt x j) = h x j
+
+pub first_in_order : (w : Bool) (b : ℕ → ℤ) (l : Location) → IsInOrder (first_forms w b l)
+unfolding plan_definitions follow_definitions definitions
+first_in_order true b l = each_location (λ l. IsInOrder (object_forms b l)) (λ t. (tt, tt)) (λ x. ((tt, tt), tt)) (λ x j. (tt, tt)) l
+first_in_order false b l = each_location (λ l. IsInOrder (base_forms b l)) (λ t. (tt, tt)) (λ x. (tt, tt)) (λ x j. ((tt, tt), tt)) l
+
+behind : (n m : ℤ) → n +ℤ (m +ℤ pos 0) ≡ m +ℤ n
+behind n m = omega (arith, ints)
+
+pub first_behind :
+    (w : Bool) (b : ℕ → ℤ) (l : Location) (n : ℤ) →
+    add_forms (constant_form n) (add_forms (first_forms w b l) (constant_form (pos 0))) ≡ add_forms (first_forms w b l) (constant_form n)
+unfolding plan_definitions follow_definitions definitions
+first_behind true b l n =
+    each_location (λ l. add_forms (constant_form n) (add_forms (object_forms b l) (constant_form (pos 0))) ≡ add_forms (object_forms b l) (constant_form n))
+    (λ t i. record { constant = behind n (pos 0) i; terms = []; mixed = [] })
+    (λ x i. record { constant = behind n (b x) i; terms = record { delta = record { object = x; site = 0 }; factor = pos 1 } ∷ []; mixed = [] })
+    (λ x j i. record { constant = behind n (pos 0) i; terms = []; mixed = [] }) l
+first_behind false b l n =
+    each_location (λ l. add_forms (constant_form n) (add_forms (base_forms b l) (constant_form (pos 0))) ≡ add_forms (base_forms b l) (constant_form n))
+    (λ t i. record { constant = behind n (pos 0) i; terms = []; mixed = [] })
+    (λ x i. record { constant = behind n (b x) i; terms = []; mixed = [] })
+    (λ x j i. record { constant = behind n (pos 0) i; terms = record { delta = record { object = x; site = j }; factor = pos 1 } ∷ []; mixed = [] }) l
 
 pub object_taken :
     (b : ℕ → ℤ) (p : Place) (x : ℕ) (a : Linear) → p ≡ Base x →

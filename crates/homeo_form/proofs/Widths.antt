@@ -1,16 +1,14 @@
 -- Sums and products of the numbers of forms fit their type.
-use Rattle.std.proofs.Common.{◌≡◌, ◌≤◌, ◌+◌, ℤ, ◌+ℤ◌, ◌*ℤ◌, FitsSigned, SFits, to_z, of_z, ap₂, ◌∙◌, arith}
+use Rattle.std.proofs.Common.{◌≡◌, ℤ, ◌+ℤ◌, ◌*ℤ◌, FitsSigned, SFits, to_z, of_z, ap₂, ◌∙◌, arith}
 use mir.Syntax.{w128}
 use Rattle.std.specs.Int.RustNames.{unsigned_abs}
-use Rattle.std.proofs.lemmas.Int.{ints, fits_signed_from_abs, to_z-of_z, unsigned_abs-mul}
+use Rattle.std.proofs.lemmas.Int.{fits_signed_from_abs, to_z-of_z, unsigned_abs-mul}
 use Rattle.std.proofs.lemmas.Nat.{mul-le}
+use Rattle.homeo_lemmas.proofs.Integers.{abs_add}
 use Rattle.homeo_meaning.specs.Key.{definitions as meaning_definitions}
 use Rattle.homeo_meaning.specs.Small.{IsSmall}
 use Rattle.homeo_plan.specs.Limit.{form_limit}
 use Rattle.homeo_form.specs.inner.Terms.{sum_limit}
-
-pub abs_add : (a b : ℤ) → unsigned_abs (a +ℤ b) ≤ unsigned_abs a + unsigned_abs b
-abs_add a b = grind (arith, ints)
 
 sum_fits : (a b : ℤ) → IsSmall form_limit a → IsSmall sum_limit b → FitsSigned w128 (a +ℤ b)
 unfolding meaning_definitions

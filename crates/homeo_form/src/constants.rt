@@ -8,6 +8,7 @@ ghost use Rattle.homeo_plan.specs.Linear.{constant_form, form, sum_form, product
 ghost use Rattle.homeo_plan.specs.Limit.{form_limit};
 ghost use Rattle.homeo_form.specs.Standing.{forms_of};
 
+use crate::items::place_and_number;
 use crate::numbers::{added, multiplied, widened};
 use crate::standing::Standing;
 use homeo_split::{place_of, place_of_temp};
@@ -15,9 +16,23 @@ use homeo_syntax::LExpr;
 
 /// The constant of the form of an expression, which is its value where all deltas are 0. It takes no memory. The numbers of the
 /// form have to be small, as for the form itself.
+pub fn constant(standing: &Standing, e: &LExpr) -> i128
+    requires { CanForm (IsSmall form_limit) (forms_of standing.now) (plain_lexpr e.now) }
+    ensures { result ≡ (form (forms_of standing.now) (plain_lexpr e.now)).constant }
+{
+    match e {
+        LExpr::Literal(n) => widened(*n),
+        LExpr::Read(x) => standing.constant_at(place_of(*x)),
+        LExpr::Temp(_) | LExpr::Sum(_) | LExpr::Product(_) | LExpr::Neg(_) => {
+            constant_by_parts(standing, e)
+        }
+    }
+}
+
+/// The same, which calls itself for the parts. Most comparisons are of what is read, with a number or not, and a number.
 #[cycle(constants)]
 #[tactic(auto, using(homeo_syntax::proofs::Measures::low_expr_parts, homeo_syntax::proofs::LowViews::low_phrase_views))]
-pub fn constant(standing: &Standing, e: &LExpr) -> i128
+fn constant_by_parts(standing: &Standing, e: &LExpr) -> i128
     requires { CanForm (IsSmall form_limit) (forms_of standing.now) (plain_lexpr e.now) }
     ensures { result ≡ (form (forms_of standing.now) (plain_lexpr e.now)).constant }
 {
@@ -25,9 +40,15 @@ pub fn constant(standing: &Standing, e: &LExpr) -> i128
         LExpr::Literal(n) => widened(*n),
         LExpr::Temp(t) => standing.constant_at(place_of_temp(*t)),
         LExpr::Read(x) => standing.constant_at(place_of(*x)),
-        LExpr::Sum(es) => constant_of_sum(standing, es.as_slice()),
+        LExpr::Sum(es) => {
+            let es = es.as_slice();
+            match place_and_number(es) {
+                Some((place, n)) => added(n, standing.constant_at(place)),
+                None => constant_of_sum(standing, es),
+            }
+        }
         LExpr::Product(es) => constant_of_product(standing, es.as_slice()),
-        LExpr::Neg(e) => multiplied(-1, constant(standing, e)),
+        LExpr::Neg(e) => multiplied(-1, constant_by_parts(standing, e)),
     }
 }
 
@@ -39,7 +60,7 @@ fn constant_of_sum(standing: &Standing, es: &[LExpr]) -> i128
 {
     let mut total = 0;
     for e in es {
-        total = added(constant(standing, e), total);
+        total = added(constant_by_parts(standing, e), total);
     }
     total
 }
@@ -52,7 +73,7 @@ fn constant_of_product(standing: &Standing, es: &[LExpr]) -> i128
 {
     let mut total = 1;
     for e in es {
-        total = multiplied(total, constant(standing, e));
+        total = multiplied(total, constant_by_parts(standing, e));
     }
     total
 }

@@ -7,9 +7,10 @@ ghost use Rattle.homeo_plan.specs.FormSizes.{Numbers, CanForm, CanSum, CanProduc
 ghost use Rattle.homeo_plan.specs.Linear.{constant_form, add_forms, scale_form, form, sum_form, product_form};
 ghost use Rattle.homeo_plan.specs.Limit.{form_limit};
 ghost use Rattle.homeo_form.specs.Standing.{forms_of};
+ghost use Rattle.homeo_form.specs.inner.Order.{IsInOrder};
 
 use crate::form::{Form, Total};
-use crate::items::{Item, item_of, number_of, place_and_number};
+use crate::items::{Item, item_of, number_of, place_and_number, place_read};
 use crate::numbers::multiplied;
 use crate::standing::Standing;
 use homeo_split::{place_of, place_of_temp};
@@ -82,6 +83,21 @@ fn product(alloc: Global, standing: &Standing, es: &[LExpr]) -> Result<Form, Mem
     Ok(total)
 }
 
+/// The form of an expression with a number added. That of what stands at a place, as in most comparisons, is made with it at once.
+fn beside(alloc: Global, standing: &Standing, e: &LExpr, n: i128) -> Result<Form, Memory>
+    requires expression { CanForm (IsSmall form_limit) (forms_of standing.now) (plain_lexpr e.now) }
+    requires number { IsSmall form_limit n }
+    ensures { IfOk result (λ f. (f ≡ add_forms (form (forms_of standing.now) (plain_lexpr e.now)) (constant_form n))
+        × IsInOrder (form (forms_of standing.now) (plain_lexpr e.now))) }
+{
+    if let Some(place) = place_read(e) {
+        return standing.form_beside(alloc, place, n);
+    }
+    let whole = form(alloc, standing, e)?;
+    whole.in_order();
+    Ok(whole.plus_number(n))
+}
+
 /// The form of the difference of two expressions; with its sign turned it is that of the other difference. In neither expression,
 /// nor in the second with its sign turned, may there be a constant or a factor above 4 * 10^18 in size, as in `form`.
 ///
@@ -103,18 +119,28 @@ pub fn difference(
         (scale_form (negsuc 0) (form (forms_of standing.now) (plain_lexpr left.now)))) }
 {
     if let Some(n) = number_of(left) {
-        let less = form(alloc, standing, right)?;
-        less.in_order();
-        return Ok(less.negated().plus_number(n));
+        return number_less(alloc, standing, n, right);
     }
     if let Some(n) = number_of(right) {
-        let whole = form(alloc, standing, left)?;
-        whole.in_order();
-        return Ok(whole.plus_number(multiplied(-1, n)));
+        return beside(alloc, standing, left, multiplied(-1, n));
     }
     let whole = form(alloc, standing, left)?;
     let less = form(alloc, standing, right)?;
     whole.in_order();
     less.in_order();
     whole.minus(alloc, less)
+}
+
+/// The difference of a number and the form of an expression.
+#[inline(never)]
+fn number_less(alloc: Global, standing: &Standing, n: i128, e: &LExpr) -> Result<Form, Memory>
+    requires number { IsSmall form_limit n }
+    requires expression { CanForm (IsSmall form_limit) (forms_of standing.now) (plain_lexpr e.now) }
+    requires negated { Numbers (IsSmall form_limit) (scale_form (negsuc 0) (form (forms_of standing.now) (plain_lexpr e.now))) }
+    ensures { IfOk result (λ f. (f ≡ add_forms (constant_form n) (scale_form (negsuc 0) (form (forms_of standing.now) (plain_lexpr e.now))))
+        × IsInOrder (form (forms_of standing.now) (plain_lexpr e.now))) }
+{
+    let less = form(alloc, standing, e)?;
+    less.in_order();
+    Ok(less.negated().plus_number(n))
 }

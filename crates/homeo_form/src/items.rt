@@ -55,7 +55,7 @@ pub(crate) fn place_and_number(es: &[LExpr]) -> Option<(Place, i128)>
 }
 
 /// The place whose form an expression reads.
-fn place_read(e: &LExpr) -> Option<Place>
+pub(crate) fn place_read(e: &LExpr) -> Option<Place>
     ensures { IfSome result (HasFormAt (λ a. a) (plain_lexpr e.now)) }
 {
     match e {

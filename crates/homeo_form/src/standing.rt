@@ -11,6 +11,7 @@ ghost use Rattle.homeo_plan.specs.Linear.{base_forms, constant_form, add_forms, 
 ghost use Rattle.homeo_split.specs.Places.{plain_place};
 ghost use Rattle.homeo_follow.specs.Follow.{object_forms, gain};
 ghost use Rattle.homeo_form.specs.Standing.{first_forms, forms_of};
+ghost use Rattle.homeo_form.specs.inner.Order.{IsInOrder};
 
 use crate::form::{Form, Total};
 use crate::numbers::{added, multiplied, widened};
@@ -86,6 +87,7 @@ impl<'a> Standing<'a> {
     }
 
     /// The form that was set at a place, if one was.
+    #[inline(always)]
     fn get(&self, place: Place) -> Option<&Form>
         ensures { unwrap_or (option_copied result) (first_forms self.now.are_whole (values_of self.now.base.now) (plain_place place)) ≡
             forms_of self.now (plain_place place) }
@@ -121,13 +123,17 @@ impl<'a> Standing<'a> {
     }
 
     /// The form at a place, with a number added as in a sum.
+    #[inline(always)]
     pub(crate) fn form_beside(&self, alloc: Global, place: Place, n: i128) -> Result<Form, Memory>
         requires place_small { Numbers (IsSmall form_limit) (forms_of self.now (plain_place place)) }
         requires number_small { IsSmall form_limit n }
-        ensures { IfOk result (λ f. f ≡ add_forms (constant_form n) (add_forms (forms_of self.now (plain_place place)) (constant_form (pos 0)))) }
+        ensures sum { IfOk result (λ f. f ≡ add_forms (constant_form n) (add_forms (forms_of self.now (plain_place place)) (constant_form (pos 0)))) }
+        ensures last { IfOk result (λ f. f ≡ add_forms (forms_of self.now (plain_place place)) (constant_form n)) }
+        ensures order { IsInOrder (forms_of self.now (plain_place place)) }
     {
         match self.get(place) {
             Some(form) => {
+                form.in_order();
                 let here = form.copy(alloc)?;
                 Ok(here.plus_number(n))
             }

@@ -5,4 +5,5 @@ pub mod FirstPlaces
 pub mod Keys
 pub mod Limits
 pub mod Places
+pub mod SizedCalls
 pub mod Whole

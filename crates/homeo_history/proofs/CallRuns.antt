@@ -24,7 +24,7 @@ use Rattle.homeo_plan.specs.Template.{PlannedCall}
 use Rattle.homeo_plan.specs.Planned.{planned_at}
 use Rattle.homeo_plan.proofs.PlannedCalls.{KnownCall, known, planned_is}
 use Rattle.homeo_history.specs.Legal.{site_of, IsCallAt}
-use Rattle.homeo_history.proofs.ValueLists.{values_like}
+use Rattle.homeo_meaning.proofs.ValueLists.{values_like}
 
 -- ---- a transaction that may be there
 record OutcomeRuns (w : s.Workload) (o : Option s.Transaction) (args db : List ℤ) : Type 0 where

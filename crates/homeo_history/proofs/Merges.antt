@@ -34,7 +34,7 @@ use Rattle.homeo_history.specs.Legal.{IsCallAt}
 use Rattle.homeo_history.specs.Replayed.{prints_at, deltas_after, end_of, MeetsTreaty, KeepsOne, KeepsAll, site_end, fold_of}
 use Rattle.homeo_history.specs.Laws.{HasSegments, MergeLaw}
 use Rattle.homeo_history.proofs.CallRuns.{call_runs, site_is}
-use Rattle.homeo_history.proofs.ValueLists.{like_itself}
+use Rattle.homeo_meaning.proofs.ValueLists.{like_itself}
 use Rattle.homeo_history.proofs.Counts.{count_same, count_other}
 
 abbrev Segments : Type 0

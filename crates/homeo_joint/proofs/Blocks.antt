@@ -1,17 +1,15 @@
 -- The numbers of joint rows by their digits are the picks of the joint table.
 use Rattle.homeo_plan.specs.Key.{definitions}
-use Rattle.std.proofs.Common.{◌≡◌, ℕ, zero, suc, ◌+◌, ◌*◌, ◌<◌, ◌≤◌, ◌/◌, ◌%◌, List, [], ◌∷◌, ◌++◌, map, drop, length, pos, ℤ, ◌^◌, w64, to_z, Global, refl, sym, ap, ap₂, ◌∙◌, arith}
-use Rattle.std.specs.Prelude.{slice_index_or, Vec}
+use Rattle.std.proofs.Common.{◌≡◌, ℕ, zero, suc, ◌+◌, ◌*◌, ◌<◌, ◌≤◌, ◌/◌, ◌%◌, List, [], ◌∷◌, ◌++◌, map, drop, length, pos, ℤ, ◌^◌, w64, to_z, refl, sym, ap, ap₂, ◌∙◌, arith}
+use Rattle.std.specs.Prelude.{slice_index_or}
 use Rattle.std.specs.List.{All}
 use Rattle.std.proofs.Math.Nat.{div-le_self}
 use Rattle.std.proofs.lemmas.Int.{to_z_pos}
 use Rattle.std.proofs.lemmas.List.{append-nil, append_assoc, map_push, length-append, length-map}
 use Rattle.std.proofs.lemmas.Nat.{div-mul-add, mod-mul-add}
-use Rattle.homeo_plan.specs.declared.rows.Row as rows
-use Rattle.homeo_plan.specs.PlanView.{plain_row}
 use Rattle.homeo_plan.specs.Table.{Row}
 use Rattle.homeo_plan.specs.Joint.{picks_from, joint_picks}
-use Rattle.homeo_joint.specs.Counts.{plain_table, row_counts, product_of}
+use Rattle.homeo_joint.specs.Counts.{product_of}
 use Rattle.homeo_joint.specs.inner.Digits.{digits, digits_below}
 use Rattle.homeo_joint.proofs.Products.{counts-drop, alike-more}
 
@@ -105,19 +103,6 @@ picks-more ns i n all h is a b e within below before after whole f made =
     ∙ append_assoc before (pos q ∷ []) (map pos (digits rest (b % (a / n))))
     ∙ sym (ap (λ ds. before ++ map pos ds) split)
     ∙ f
-
-pub counts-plain : (ts : List (Vec rows.Row Global)) → row_counts ts ≡ map length (map plain_table ts)
-counts-plain [] = refl
-counts-plain (t ∷ ts) = ap₂ ◌∷◌ (t.ok.0 ∙ sym (length-map t.items plain_row)) (counts-plain ts)
-
--- how many joint rows there are
-pub joint_count : (ts : List (Vec rows.Row Global)) → length (joint_picks (map plain_table ts)) ≡ product_of (row_counts ts)
-joint_count ts = length_joint (map plain_table ts) ∙ ap product_of (sym (counts-plain ts))
-
-pub rows_within :
-    (ts : List (Vec rows.Row Global)) (size limit : ℕ) → size ≡ product_of (row_counts ts) → size ≤ limit →
-    length (joint_picks (map plain_table ts)) ≤ limit
-rows_within ts size limit e within = let count = joint_count ts in omega (arith, count, e, within)
 
 -- all numbers by their digits
 pub all_choices :

@@ -1,12 +1,11 @@
 -- Products of row counts, up to a table and from it on.
 use Rattle.std.proofs.Common.{◌≡◌, ℕ, zero, suc, ◌+◌, ◌*◌, ◌<◌, ◌≤◌, ◌/◌, List, [], ◌∷◌, ◌++◌, take, drop, length, refl, sym, ap, ap₂, ◌∙◌, subst, arith}
-use Rattle.std.specs.Prelude.{slice_index_or, Vec, vec_len}
+use Rattle.std.specs.Prelude.{slice_index_or}
 use Rattle.std.specs.List.{All}
 use Rattle.std.proofs.Math.Nat.{mul_assoc, one-le-mul, le-mul_of_pos_right, mul-div_cancel_left}
-use Rattle.std.proofs.lemmas.List.{take_more, take-append-drop, drop_more, get_or-map, length-map}
-use Rattle.std.proofs.lemmas.List.Elements.{All-head, All-tail, All-drop, All-map}
-use Rattle.homeo_plan.specs.declared.rows.Row.{Row}
-use Rattle.homeo_joint.specs.Counts.{row_counts, product_of, IsFirstOver}
+use Rattle.std.proofs.lemmas.List.{take_more, take-append-drop, drop_more}
+use Rattle.std.proofs.lemmas.List.Elements.{All-head, All-tail, All-drop}
+use Rattle.homeo_joint.specs.Counts.{product_of, IsFirstOver}
 
 pub product-append : (ms ns : List ℕ) → product_of (ms ++ ns) ≡ product_of ms * product_of ns
 product-append [] ns = omega arith
@@ -40,24 +39,7 @@ item-is (n ∷ ns) (suc i) d e h = item-is ns i d e (omega arith)
 pub counts-drop : (ns : List ℕ) (i n : ℕ) → i < length ns → n ≡ slice_index_or ns i n → drop i ns ≡ n ∷ drop (i + 1) ns
 counts-drop ns i n h is = drop_more ns i n h ∙ ap (λ n. n ∷ drop (i + 1) ns) (sym is)
 
--- ---- the counts of tables
-pub count-at :
-    {A : Type 0} (ts : List (Vec Row A)) (i d : ℕ) (t : Vec Row A) → i < length ts → t ≡ slice_index_or ts i t →
-    slice_index_or (row_counts ts) i d ≡ vec_len t
-count-at ts i d t h is = get_or-map vec_len ts i t d h ∙ ap vec_len (sym is)
-
-pub row-counts-at :
-    {A : Type 0} (ts : List (Vec Row A)) (i : ℕ) (t : Vec Row A) (n : ℕ) → i < length ts → t ≡ slice_index_or ts i t → n ≡ vec_len t →
-    n ≡ slice_index_or (row_counts ts) i n
-row-counts-at ts i t n h is len = len ∙ sym (count-at ts i n t h is)
-
-pub counts_exist : {A : Type 0} (ts : List (Vec Row A)) (i : ℕ) → i < length ts → i < length (row_counts ts)
-counts_exist ts i h = subst (λ n. i < n) (sym (length-map ts vec_len)) h
-
-pub counts_positive : {A : Type 0} (ts : List (Vec Row A)) → All (λ t. 1 ≤ vec_len t) ts → All (λ n. 1 ≤ n) (row_counts ts)
-counts_positive ts h = All-map (λ n. 1 ≤ n) vec_len ts h
-
--- the running product with one more table
+-- ---- the running product with one more table
 pub size-more :
     (ns : List ℕ) (i : ℕ) (n : ℕ) → i < length ns → n ≡ slice_index_or ns i n → (p : ℕ) → p ≡ product_of (take i ns) →
     p * n ≡ product_of (take (i + 1) ns)

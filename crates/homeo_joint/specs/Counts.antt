@@ -1,17 +1,7 @@
--- How many rows tables have, and where there are too many choices of one row of each.
-use Rattle.std.specs.Prelude.{◌≡◌, ℕ, ℤ, pos, ◌+◌, ◌*◌, ◌<◌, ◌≤◌, List, [], ◌∷◌, map, take, length, Vec, vec_len}
-use Rattle.homeo_plan.specs.declared.rows.Row.{Row}
+-- The choices of one row of each of some tables, and where there are too many.
+use Rattle.std.specs.Prelude.{◌≡◌, ℕ, ℤ, pos, ◌+◌, ◌*◌, ◌<◌, ◌≤◌, List, [], ◌∷◌, map, take, length}
 use Rattle.homeo_plan.specs.Joint.{joint_picks}
-use Rattle.homeo_plan.specs.PlanView.{plain_row}
 use Rattle.homeo_plan.specs.Table as table
-
--- what a table stands for
-abbrev pub plain_table : {A : Type 0} → Vec Row A → List table.Row
-plain_table t = map plain_row t.items
-
--- how many rows each table has
-abbrev pub row_counts : {A : Type 0} → List (Vec Row A) → List ℕ
-row_counts ts = map vec_len ts
 
 abbrev pub product_of : List ℕ → ℕ
 product_of [] = 1

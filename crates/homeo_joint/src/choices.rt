@@ -2,40 +2,18 @@
 
 ghost use Rattle.std.specs.Prelude.{◌≡◌, ℕ, ◌^◌, ◌<◌, ◌≤◌, map, length, vec_len, pos, ◌↔◌, IfOk, IsErrAnd};
 ghost use Rattle.std.specs.List.{All};
-ghost use Rattle.homeo_plan.specs.Joint.{joint_picks};
-ghost use Rattle.homeo_joint.specs.Counts.{plain_table, row_counts, product_of, row_limit, ArePicks, IsFirstOver};
+ghost use Rattle.homeo_joint.specs.Counts.{product_of, row_limit, ArePicks, IsFirstOver};
 ghost use Rattle.homeo_joint.specs.TooMany.{IsTooMany};
 ghost use Rattle.homeo_joint.specs.inner.Digits.{digits, digits_below};
 
-use crate::size::{JointError, joint_size, product_within};
-use homeo_plan::{JointRow, Row};
+use crate::size::{JointError, product_within};
+use homeo_plan::JointRow;
 use homeo_syntax::{List, Memory, Numbers};
 use std::alloc::Global;
 
-/// The joint table (Roy et al., SIGMOD 2015): a row for each choice of one row of each table, with the numbers of the
-/// chosen rows, from 0, in the order of the tables. The last table's row changes fastest (this project's rule). No tables
-/// give one row, without picks. It takes time and memory linear in the picks and the tables.
-///
-/// # Errors
-///
-/// `TooMany` exactly where there are more than `MOST_ROWS` such rows: the first table up to which the tables have more
-/// choices than that, and how many. Else `Memory` when out of memory.
-pub fn joint(alloc: Global, tables: &[Vec<Row>]) -> Result<Vec<JointRow>, JointError>
-    requires few { length tables.now < 2 ^ 32 }
-    requires some { All (λ t. 1 ≤ vec_len t) tables.now }
-    requires counted { All (λ t. vec_len t < 2 ^ 32) tables.now }
-    ensures picks { IfOk result (λ rows. map (λ r. r.picks.items) rows.items ≡ map (map pos) (joint_picks (map plain_table tables.now))) }
-    ensures count { IfOk result (λ rows. vec_len rows ≡ product_of (row_counts tables.now)) }
-    ensures over { IsErrAnd result IsTooMany ↔ (row_limit < length (joint_picks (map plain_table tables.now))) }
-    ensures first { (t p : ℕ) → result ≡ Err (JointError.TooMany t p) → IsFirstOver row_limit (row_counts tables.now) t p }
-{
-    let size = joint_size(tables)?;
-    let counts = counts_of(alloc, tables)?;
-    let rows = joint_rows(alloc, counts.as_slice(), size)?;
-    Ok(rows)
-}
-
-/// The joint table of tables of which only the numbers of their rows are known. It takes time and memory linear in the picks.
+/// The joint table (Roy et al., SIGMOD 2015) of tables of which only the numbers of their rows are known: a row for each choice of
+/// one row of each table, with the numbers of the chosen rows, from 0, in the order of the tables. The last table's row changes
+/// fastest (this project's rule). No tables give one row, without picks. It takes time and memory linear in the picks.
 ///
 /// # Errors
 ///
@@ -54,16 +32,6 @@ pub fn joint_of_counts(alloc: Global, counts: &[u64]) -> Result<Vec<JointRow>, J
     let size = product_within(counts)?;
     let rows = joint_rows(alloc, counts, size)?;
     Ok(rows)
-}
-
-fn counts_of(alloc: Global, tables: &[Vec<Row>]) -> Result<Vec<u64>, Memory>
-    ensures { IfOk result (λ counts. counts.items ≡ row_counts tables.now) }
-{
-    let mut counts = Vec::with_capacity(alloc, tables.len())?;
-    for rows in tables {
-        counts.push(rows.len() as u64)?;
-    }
-    Ok(counts)
 }
 
 /// The rows of the joint table of tables of so many rows each, `size` in all.

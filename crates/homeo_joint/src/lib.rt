@@ -4,5 +4,5 @@
 mod choices;
 mod size;
 
-pub use choices::{joint, joint_of_counts};
-pub use size::{JointError, MOST_ROWS};
+pub use choices::joint_of_counts;
+pub use size::{JointError, MOST_ROWS, more_rows};

@@ -1,11 +1,10 @@
 //! How many rows a joint table has.
 
-ghost use Rattle.std.specs.Prelude.{◌≡◌, ℕ, ◌*◌, ◌^◌, ◌<◌, ◌≤◌, length, vec_len, IfErr, IfOk, IsErr};
+ghost use Rattle.std.specs.Prelude.{◌≡◌, ℕ, ◌*◌, ◌^◌, ◌<◌, ◌≤◌, length, IfErr, IfOk, IsErr};
 ghost use Rattle.std.specs.List.{All};
-ghost use Rattle.homeo_joint.specs.Counts.{row_counts, product_of, row_limit, IsFirstOver};
+ghost use Rattle.homeo_joint.specs.Counts.{product_of, row_limit, IsFirstOver};
 ghost use Rattle.homeo_joint.specs.TooMany.{IsTooMany};
 
-use homeo_plan::Row;
 use homeo_syntax::Memory;
 
 /// The most rows that a joint table may have.
@@ -32,28 +31,7 @@ impl From<Memory> for JointError {
     }
 }
 
-/// The number of rows of the joint table.
-///
-/// # Errors
-///
-/// `TooMany` where it exceeds `MOST_ROWS`.
-pub(crate) fn joint_size(tables: &[Vec<Row>]) -> Result<u64, JointError>
-    requires few { length tables.now < 2 ^ 32 }
-    requires some { All (λ t. 1 ≤ vec_len t) tables.now }
-    requires counted { All (λ t. vec_len t < 2 ^ 32) tables.now }
-    ensures size { IfOk result (λ n. n ≡ product_of (row_counts tables.now)) }
-    ensures within { IfOk result (λ n. n ≤ row_limit) }
-    ensures error { IfErr result IsTooMany }
-    ensures first { (t p : ℕ) → result ≡ Err (JointError.TooMany t p) → IsFirstOver row_limit (row_counts tables.now) t p }
-{
-    let mut product = 1;
-    for (table, rows) in tables.iter().enumerate() {
-        product = more_rows(product, table, rows.len() as u64)?;
-    }
-    Ok(product)
-}
-
-/// The same of tables of so many rows each.
+/// The number of rows of the joint table of tables of so many rows each.
 ///
 /// # Errors
 ///
@@ -78,7 +56,7 @@ pub(crate) fn product_within(counts: &[u64]) -> Result<u64, JointError>
 /// # Errors
 ///
 /// `TooMany` where they exceed `MOST_ROWS`.
-fn more_rows(product: u64, table: usize, rows: u64) -> Result<u64, JointError>
+pub fn more_rows(product: u64, table: usize, rows: u64) -> Result<u64, JointError>
     requires within { product ≤ row_limit }
     requires few { table < 2 ^ 32 }
     requires counted { rows < 2 ^ 32 }

@@ -1,5 +1,5 @@
 -- Integers: their tests, sums and sizes.
-use Rattle.std.proofs.Common.{◌≡◌, ℤ, pos, negsuc, ◌+ℤ◌, ◌*ℤ◌, neg_ℤ, ◌≤ℤ◌, int_lt, int_le, unsigned_abs, Bool, true, false, cond, refl, arith}
+use Rattle.std.proofs.Common.{◌≡◌, ◌+◌, ◌≤◌, ℤ, pos, negsuc, ◌+ℤ◌, ◌*ℤ◌, neg_ℤ, ◌≤ℤ◌, int_lt, int_le, unsigned_abs, Bool, true, false, cond, refl, arith}
 use Rattle.std.proofs.lemmas.Int.{ints}
 use Rattle.std.specs.Ordering.{int_eq}
 
@@ -54,6 +54,9 @@ minus_itself x = omega (arith, ints)
 
 pub times_zero : (x : ℤ) → x *ℤ pos 0 ≡ pos 0
 times_zero x = omega (arith, ints)
+
+pub abs_add : (a b : ℤ) → unsigned_abs (a +ℤ b) ≤ unsigned_abs a + unsigned_abs b
+abs_add a b = grind (arith, ints)
 
 pub abs_neg : (x : ℤ) → unsigned_abs (neg_ℤ x) ≡ unsigned_abs x
 abs_neg x = grind (arith, ints)

@@ -23,26 +23,15 @@ use Rattle.homeo_meaning.specs.declared.rules.Local.{Local}
 use Rattle.homeo_meaning.specs.declared.rules.Local.TheVariants as L
 use Rattle.homeo_meaning.specs.declared.rules.Phase.TheVariants as F
 use Rattle.homeo_meaning.proofs.FaultParts.{none_first, none_second}
+use Rattle.homeo_lform.proofs.ObjectBounds.{Each}
 
 -- ---- places without a fault
 pub record Clean (sc : Scope) (p : Occurrence) : Type 0 where
   pub local : ℕ → Local
   pub none : judge sc local p ≡ []
 
-abbrev pub AllClean : Scope → List Occurrence → Type 0
-AllClean sc [] = Unit {0}
-AllClean sc (p ∷ ps) = Clean sc p × AllClean sc ps
-
-pub clean_first : (sc : Scope) (ps qs : List Occurrence) → AllClean sc (ps ++ qs) → AllClean sc ps
-clean_first sc [] qs h = tt
-clean_first sc (p ∷ ps) qs h = (h.0, clean_first sc ps qs h.1)
-
-pub clean_second : (sc : Scope) (ps qs : List Occurrence) → AllClean sc (ps ++ qs) → AllClean sc qs
-clean_second sc [] qs h = h
-clean_second sc (p ∷ ps) qs h = clean_second sc ps qs h.1
-
 all_clean : (sc : Scope) (local : List Occurrence → ℕ → Local) (before ps : List Occurrence) → each_from (λ before p. judge sc (local before) p) before ps ≡ []
-    → AllClean sc ps
+    → Each (Clean sc) ps
 unfolding definitions
 all_clean sc local before [] e = tt
 all_clean sc local before (p ∷ ps) e =
@@ -54,7 +43,7 @@ all_clean sc local before (p ∷ ps) e =
 abbrev idents : List Ident → List ℕ
 idents fs = map (λ x. x.name) fs
 
-pub body_clean : (sc : Scope) (t : s.Transaction) → transaction_faults sc t ≡ [] → AllClean sc (in_commands [] t.body)
+pub body_clean : (sc : Scope) (t : s.Transaction) → transaction_faults sc t ≡ [] → Each (Clean sc) (in_commands [] t.body)
 unfolding definitions
 body_clean sc t e =
     let params : List Ident = map (λ (d : RangeDecl). d.name) t.params in

@@ -1,10 +1,15 @@
+pub mod AnyBody
+pub mod Assigned
+pub mod Bodies
 pub mod Conveys
 pub mod Ends
+pub mod Everywhere
 pub mod Fields
 pub mod FormExample
 pub mod FormLaw
 pub mod Forms
 pub mod Fresh
+pub mod Gives
 pub mod Known
 pub mod Lifts
 pub mod Light
@@ -16,6 +21,7 @@ pub mod SourceNumbers
 pub mod Stays
 pub mod Undone
 pub mod Values
+pub mod Weights
 pub mod Wholes
 pub mod Writes
 pub mod Written

@@ -5,7 +5,7 @@ use Rattle.std.proofs.lemmas.Int.{ints, unsigned_abs-mul}
 use Rattle.std.proofs.lemmas.Nat.{mul-le}
 use Rattle.std.proofs.lemmas.Bool.{and_parts}
 use Rattle.std.proofs.lemmas.Bool.Decides.{nat_tests}
-use Rattle.homeo_lemmas.proofs.Integers.{abs_neg}
+use Rattle.homeo_lemmas.proofs.Integers.{abs_neg, abs_add}
 use Rattle.homeo_lemmas.proofs.Naturals.{product_positive, factor_le}
 use Rattle.homeo_syntax.specs.Low.{Expr, Exprs, Literal, OfTemp, Read, Sum, Product, Neg, NoExpr, MoreExpr, Test, Cond, True, Not, Comparison, NoTest, MoreTest, Command, Commands, Skip, Assign, Write, Print, Seq, If, NoCommand, MoreCommand}
 use Rattle.homeo_syntax.specs.Source as s
@@ -20,25 +20,7 @@ use Rattle.homeo_meaning.specs.LowComputed.{CanValue, CanSum, CanProduct, CanPas
 use Rattle.homeo_meaning.specs.Small.{IsSmall, ComputesSmall}
 use Rattle.homeo_lform.specs.Covers.{Covers}
 use Rattle.homeo_lform.proofs.SourceNumbers.{values_law}
-
-abs_add : (a b : ℤ) → unsigned_abs (a +ℤ b) ≤ unsigned_abs a + unsigned_abs b
-abs_add a b = grind (arith, ints)
-
-module _ (w : Location → ℕ) (ones : (p : Location) → 1 ≤ w p) where
-  mutual
-    unfolding definitions
-
-    one_weight : (e : Expr) → 1 ≤ weight e w
-    one_weight (Literal n) = omega arith
-    one_weight (OfTemp t) = ones (TempAt t)
-    one_weight (Read x) = ones (location_of x)
-    one_weight (Sum es) = omega arith
-    one_weight (Product es) = one_product es
-    one_weight (Neg e) = one_weight e
-
-    one_product : (es : Exprs) → 1 ≤ product_weight es w
-    one_product NoExpr = omega arith
-    one_product (MoreExpr e es) = product_positive (weight e w) (product_weight es w) (one_weight e) (one_product es)
+use Rattle.homeo_lform.proofs.Weights.{one_weight, one_product}
 
 pub weight_small : (b : ℕ) (w : Location → ℕ) (e : Expr) → is_light_expr b e w ≡ true → weight e w ≤ b
 unfolding definitions
@@ -179,7 +161,7 @@ size_at [] n v h = grind (arith, ints, h.0, h.1)
 size_at (b ∷ bs) zero v h = in_size b v h
 size_at (b ∷ bs) (suc n) v h = size_at bs n v h
 
-one_at : (bs : List Bounds) (n : ℕ) → 1 ≤ weight_at bs n
+pub one_at : (bs : List Bounds) (n : ℕ) → 1 ≤ weight_at bs n
 unfolding definitions
 one_at [] n = omega arith
 one_at (b ∷ bs) zero = omega arith

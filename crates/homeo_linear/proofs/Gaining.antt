@@ -20,7 +20,7 @@ any_object : (q : ℕ → Bool) (ds : List Delta) → list_any q (objects ds) �
 any_object q [] = refl
 any_object q (d ∷ ds) = ap (λ v. q d.object || v) (any_object q ds)
 
-any_once : (q : ℕ → Bool) (ds es : List Delta) → es ≡ add_deltas ds [] → list_any q (objects es) ≡ list_any q (objects ds)
+pub any_once : (q : ℕ → Bool) (ds es : List Delta) → es ≡ add_deltas ds [] → list_any q (objects es) ≡ list_any q (objects ds)
 any_once q ds es p =
     any_object q es ∙ ap (list_any (λ d. q d.object)) p ∙ any_adds (λ d. q d.object) ds [] ∙ or_false (list_any (λ d. q d.object) ds)
     ∙ sym (any_object q ds)

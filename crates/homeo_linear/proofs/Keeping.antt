@@ -1,5 +1,5 @@
 -- Conditions that are kept, one test after another.
-use Rattle.std.proofs.Common.{◌≡◌, ℕ, ◌+◌, ◌<◌, ◌≤◌, Bool, true, false, not, cond, ◌&&◌, List, [], ◌∷◌, ◌++◌, map, drop, get_or, length, ℤ, refl, sym, ap, ◌∙◌, subst, true≢false, append-nil, arith}
+use Rattle.std.proofs.Common.{◌≡◌, ℕ, ◌+◌, ◌<◌, ◌≤◌, Bool, true, false, not, cond, ◌&&◌, List, [], ◌∷◌, ◌++◌, drop, get_or, length, refl, sym, ap, ◌∙◌, subst, true≢false, append-nil, arith}
 use Rattle.std.proofs.lemmas.List.{append_assoc, get_or_default}
 use Rattle.homeo_syntax.specs.Key.{definitions as syntax_definitions}
 use Rattle.homeo_syntax.specs.declared.phrase.Compare.{Compare as Comparing}
@@ -10,26 +10,18 @@ use Rattle.homeo_syntax.specs.declared.low.LTest.{LTest, True, Not, Compare}
 use Rattle.homeo_syntax.specs.declared.low.LCond.{LCond}
 use Rattle.homeo_syntax.proofs.LowViews.{low_True, low_Not, low_Compare}
 use Rattle.homeo_meaning.specs.Meaning.{compared}
-use Rattle.homeo_meaning.specs.LowMeaning.{State, holds, whole}
-use Rattle.homeo_meaning.specs.Serial.{values_of}
+use Rattle.homeo_meaning.specs.LowMeaning.{holds}
 use Rattle.homeo_meaning.specs.Small.{IsSmall}
 use Rattle.homeo_lemmas.proofs.Lists.{map_drop_past}
 use Rattle.homeo_meaning.proofs.Steps.{drop_next}
 use Rattle.homeo_plan.specs.Key.{definitions as plan_definitions}
-use Rattle.homeo_plan.specs.Atoms.{true_cond}
 use Rattle.homeo_plan.specs.FormSizes.{CanTest, CanCond}
-use Rattle.homeo_plan.specs.Linear.{Linear, Forms, base_forms, form}
-use Rattle.homeo_plan.specs.Each.{Each}
-use Rattle.homeo_plan.specs.Holding.{IsOn, AtomHolds}
-use Rattle.homeo_plan.specs.PlanView.{plain_atom}
-use Rattle.homeo_plan.specs.declared.forms.Atom.{Atom}
-use Rattle.homeo_plan.proofs.Atoms.{true_cond_holds}
+use Rattle.homeo_plan.specs.Linear.{Linear, Forms, form}
 use Rattle.homeo_follow.specs.Key.{definitions}
 use Rattle.homeo_follow.specs.Follow.{passes_by, holds_by, passed_test, failed_test, passed, failed}
-use Rattle.homeo_follow.proofs.Walked.{holds_at_base, passed_is}
 use Rattle.homeo_plan.specs.Limit.{form_limit}
 use Rattle.homeo_linear.specs.inner.Kept.{AreSides, Decides, cond_of, kept_comparison, kept_test, kept_cond}
-use Rattle.homeo_form.proofs.FormSteps.{small_form}
+use Rattle.homeo_plan.proofs.FormNumbers.{small_form}
 use Rattle.homeo_linear.proofs.Comparing.{are_apart}
 
 -- ---- the first of the tests that are left
@@ -212,24 +204,3 @@ all_asked {fs} {ts} {i} {xs} {ys} h s =
 -- of a condition that holds all tests' atoms keep it
 pub held_kept : (fs : Forms) (ts : List LTest) → holds_by fs (cond_of ts) ≡ true → passed fs (cond_of ts) ≡ kept_cond fs (cond_of ts)
 held_kept fs ts h = sym (ap (λ u. cond u (passed fs (cond_of ts)) (failed fs (cond_of ts))) h)
-
--- ---- at a base
-pub atoms_at_base : (db xs : List ℤ) (fs : Forms) (c : l.Cond) → xs ≡ db → fs ≡ base_forms (values_of xs) → holds c (whole (values_of db)) ≡ true → kept_cond fs c ≡ true_cond (values_of db) c
-atoms_at_base db xs fs c p e h =
-    let b = values_of db in
-    let at : fs ≡ base_forms b = e ∙ ap (λ l. base_forms (values_of l)) p in
-    let held : holds_by (base_forms b) c ≡ true = sym (holds_at_base b c) ∙ h in
-    ap (λ f. kept_cond f c) at ∙ ap (λ v. cond v (passed (base_forms b) c) (failed (base_forms b) c)) held ∙ sym (passed_is b c)
-
--- atoms that stand behind none
-pub alone : (old new : List Atom) (fs : List Linear) → old ≡ [] → map plain_atom new ≡ map plain_atom old ++ fs → map plain_atom new ≡ fs
-alone old new fs p h = h ∙ ap (λ l. map plain_atom l ++ fs) p
-
--- what the atoms of a whole formula mean
-pub atoms_mean :
-    (db xs : List ℤ) (fs : Forms) (c : l.Cond) (ys zs : List Atom) → xs ≡ db → fs ≡ base_forms (values_of xs) → holds c (whole (values_of db)) ≡ true →
-    map plain_atom ys ≡ kept_cond fs c → zs ≡ ys → (s : State) → IsOn (values_of db) s → Each (AtomHolds s) (map plain_atom zs) → holds c s ≡ true
-atoms_mean db xs fs c ys zs p e held h q s on a =
-    let b = values_of db in
-    let k : map plain_atom zs ≡ true_cond b c = ap (map plain_atom) q ∙ h ∙ atoms_at_base db xs fs c p e held in
-    true_cond_holds b s on c held (subst (Each (AtomHolds s)) k a)

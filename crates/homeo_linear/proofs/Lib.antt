@@ -2,4 +2,4 @@ mod Comparing
 mod Coursing
 mod Gaining
 mod Keeping
-mod Needing
+mod Owning

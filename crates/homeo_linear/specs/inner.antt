@@ -1,4 +1,2 @@
 pub mod Course
-pub mod Following
 pub mod Kept
-pub mod Key

@@ -1,13 +1,14 @@
 //! Comparisons of expressions, and the atoms that keep them as they are at a base.
 
-ghost use Rattle.std.specs.Prelude.{◌≡◌, ◌++◌, pos, map, int_lt, IfOk, OnOk};
+ghost use Rattle.std.specs.Prelude.{◌≡◌, ◌++◌, ◌∷◌, [], pos, negsuc, map, int_lt, IfOk, OnOk};
 ghost use Rattle.std.specs.Ordering.{int_eq};
 ghost use Rattle.homeo_syntax.specs.LowView.{plain_lexpr};
 ghost use Rattle.homeo_syntax.specs.declared.phrase.Compare.TheVariants.{Less, Equal};
 ghost use Rattle.homeo_meaning.specs.Meaning.{compared};
 ghost use Rattle.homeo_meaning.specs.Small.{IsSmall};
+ghost use Rattle.homeo_plan.specs.FormSizes.{Numbers};
 ghost use Rattle.homeo_plan.specs.Limit.{form_limit};
-ghost use Rattle.homeo_plan.specs.Linear.{constant_form, add_forms, form};
+ghost use Rattle.homeo_plan.specs.Linear.{constant_form, add_forms, scale_form, form};
 ghost use Rattle.homeo_plan.specs.PlanView.{plain_atom};
 ghost use Rattle.homeo_form.specs.Standing.{forms_of};
 ghost use Rattle.homeo_linear.specs.inner.Kept.{AreSides, kept_comparison};
@@ -117,11 +118,21 @@ fn by_equal(
         return Ok(false);
     }
     if is_equal(&apart) {
-        atoms.push(at_most(apart.copy(alloc)?))?;
-        atoms.push(at_most(apart.negated()))?;
+        keep_equal(alloc, apart, atoms)?;
         Ok(true)
     } else {
         atoms.push(less(apart.negated()))?;
         Ok(false)
     }
+}
+
+/// Puts the atoms that keep sides equal behind the others: neither is above the other, by their difference.
+#[inline(never)]
+fn keep_equal(alloc: Global, apart: Form, atoms: &mut Vec<Atom>) -> Result<(), Memory>
+    requires { Numbers (IsSmall form_limit) apart }
+    ensures { OnOk result (map plain_atom atoms.new.items ≡ map plain_atom atoms.old.items ++ apart ∷ scale_form (negsuc 0) apart ∷ []) }
+{
+    atoms.push(at_most(apart.copy(alloc)?))?;
+    atoms.push(at_most(apart.negated()))?;
+    Ok(())
 }

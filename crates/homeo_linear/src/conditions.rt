@@ -8,7 +8,7 @@ ghost use Rattle.homeo_plan.specs.PlanView.{plain_atom};
 ghost use Rattle.homeo_plan.specs.Limit.{form_limit};
 ghost use Rattle.homeo_follow.specs.Follow.{passes_by, holds_by};
 ghost use Rattle.homeo_form.specs.Standing.{forms_of};
-ghost use Rattle.homeo_linear.specs.inner.Kept.{kept_test, kept_cond};
+ghost use Rattle.homeo_linear.specs.Kept.{kept_test, kept_cond};
 
 use crate::comparisons::comparison;
 use crate::outcomes::deciding;
@@ -43,9 +43,15 @@ fn test(
 
 /// Whether a condition holds at the base. Behind the others are put, of one that holds there, the atoms of all its tests, and of
 /// another those of its first test that fails.
+///
+/// No constant and no factor that is met in the forms of its tests and in their differences may be above 4 * 10^18 in size.
+///
+/// # Errors
+///
+/// `Memory` when out of memory.
 #[cycle(conditions)]
 #[tactic(auto, using(homeo_syntax::proofs::Measures::low_test_parts, homeo_syntax::proofs::LowViews::low_phrase_views))]
-pub(crate) fn condition(
+pub fn condition(
     alloc: Global,
     standing: &Standing,
     c: &LCond,

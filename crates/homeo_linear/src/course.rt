@@ -1,6 +1,6 @@
 //! Commands over whole objects, followed along the branch that they take at a base.
 
-ghost use Rattle.std.specs.Prelude.{◌≡◌, ℕ, ℤ, [], map, IfOk, OnOk};
+ghost use Rattle.std.specs.Prelude.{◌≡◌, ℕ, ℤ, [], map, IfOk, IfSome, OnOk};
 ghost use Rattle.homeo_syntax.specs.Low.{Assign, Write, Print};
 ghost use Rattle.homeo_syntax.specs.LowView.{low_commands, plain_lexpr, plain_lcond, plain_lcommand};
 ghost use Rattle.homeo_meaning.specs.Serial.{values_of};
@@ -12,10 +12,12 @@ ghost use Rattle.homeo_follow.specs.Brought.{brought, plain_part};
 ghost use Rattle.homeo_follow.specs.Follow.{nothing, and_then, asked, holds_by, follow, follow_all, object_delta, object_forms, object_of, followed, print_needs, write_needs, needed};
 ghost use Rattle.homeo_follow.specs.FollowSizes.{AreNumbers, CanBeFollowed, CanAllBeFollowed};
 ghost use Rattle.homeo_form.specs.Standing.{forms_of};
+ghost use Rattle.homeo_linear.specs.Effect.{IsEffect};
 ghost use Rattle.homeo_linear.specs.inner.Course.{brought_by, followed_so};
 ghost use Rattle.homeo_linear.specs.inner.Kept.{kept_cond};
 
 use crate::conditions::condition;
+use crate::effect::{Effect, own_forms, own_writes};
 use homeo_follow::PlanPart;
 use homeo_form::{Form, Standing, deltas_in_order, expression_form};
 use homeo_meaning::Database;
@@ -74,6 +76,21 @@ impl<'a> Course<'a> {
                 deltas: List::from_vec(needed),
             },
         })
+    }
+
+    /// What it writes and prints, where it ends here, if each of these forms is one over own deltas.
+    fn effect(&mut self, alloc: Global) -> Result<Option<Effect>, Memory>
+        ensures { IfOk result (λ o. IfSome o (IsEffect (followed_so self.old))) }
+    {
+        let written = mem::replace(&mut self.written, Vec::new(alloc));
+        let written = deltas_in_order(alloc, written)?;
+        let Some(writes) = own_writes(alloc, &self.standing, written.as_slice())? else {
+            return Ok(None);
+        };
+        let Some(prints) = own_forms(alloc, self.prints.as_slice())? else {
+            return Ok(None);
+        };
+        Ok(Some(Effect { writes, prints }))
     }
 
     /// Whether a condition holds at the base, after its atoms are asked.
@@ -210,6 +227,24 @@ impl<'a> Follower<'a> {
         self.course.begin(base);
         follow(alloc, command, &mut self.course)?;
         self.course.part(alloc)
+    }
+
+    /// What a command over whole objects writes and prints at any site, by forms over the site's own deltas (this project's rule): it
+    /// does so wherever its tests come out as at the base. The same numbers may be met as by `part`. There is none where one of these
+    /// forms has mixed deltas, or a number that doesn't fit i64.
+    ///
+    /// # Errors
+    ///
+    /// `Memory` when out of memory.
+    pub fn effect(&mut self, alloc: Global, command: &LCommand) -> Result<Option<Effect>, Memory>
+        requires { CanBeFollowed (IsSmall form_limit) (object_forms (values_of self.old.base.now)) (plain_lcommand command.now) }
+        ensures base { self.new.base.now ≡ self.old.base.now }
+        ensures effect { IfOk result (λ o. IfSome o (IsEffect (followed (values_of self.old.base.now) (plain_lcommand command.now)))) }
+    {
+        let base = self.base;
+        self.course.begin(base);
+        follow(alloc, command, &mut self.course)?;
+        self.course.effect(alloc)
     }
 }
 

@@ -1,14 +1,12 @@
-//! By linear forms at a base: what L forms ask and need, the atoms of formulas, and what residuals need of other sites.
+//! By linear forms at a base: what L forms ask and need, and whether conditions hold, with the atoms that keep them so.
 #![tactic(auto)]
 
 mod comparisons;
 mod conditions;
 mod course;
-mod following;
-mod formulas;
+mod effect;
 mod outcomes;
-mod residuals;
 
+pub use conditions::condition;
 pub use course::Follower;
-pub use formulas::atoms;
-pub use residuals::needs;
+pub use effect::{Effect, OwnForm, OwnTerm, OwnWrite};

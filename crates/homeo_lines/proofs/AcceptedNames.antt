@@ -32,7 +32,7 @@ use Rattle.homeo_plan.proofs.PlannedCalls.{known}
 use Rattle.homeo_history.specs.Legal.{IsCallAt}
 use Rattle.std.proofs.lemmas.Option.{slice_get_within}
 use Rattle.homeo_print.specs.Names.{name_text}
-use Rattle.homeo_core.proofs.FewClients.{few_from}
+use Rattle.homeo_meaning.proofs.FewClients.{few_from}
 use Rattle.homeo_report.proofs.CallsTold.{HasDistinctClients}
 use Rattle.homeo_report.proofs.Names.{distinct_clients}
 use Rattle.homeo_lemmas.proofs.Bools.{both, and_first, and_second}

@@ -29,7 +29,7 @@ use Rattle.homeo_nodes.specs.Nodes.{Said, Past, Packet, Want, Stop, State}
 use Rattle.homeo_print.specs.Names.{object_names}
 use Rattle.homeo_certificate.specs.Json.{whole_data, list_data, wholes_data}
 use Rattle.homeo_certificate.specs.Text.{IsJsonOf}
-use Rattle.homeo_certificate.proofs.TextReads.{Plain, plain_list, plain_whole, plain_string}
+use Rattle.homeo_certificate.proofs.TextReads.{Plain, plain_list, plain_whole, plain_string, comma_utf8}
 use Rattle.homeo_lines.specs.Laws.{IsText}
 use Rattle.homeo_lines.specs.SmallNumbers.{AreNamed, IsSmallCall, IsSmallFinding, IsSmallBreach, IsValue, IsSmallSaid, IsSmallState, IsSmall, AllSmall, IsSmallPast}
 use Rattle.homeo_lines.specs.Lines as l
@@ -68,10 +68,6 @@ becomes_json n d e l p =
           (value-json_tokens (outline d) max_depth [] (omega (arith, l, p.deep)))
           ∙ p.reads;
     }
-
-comma_utf8 : (later : Bool) → IsUtf8 (comma_if later)
-comma_utf8 true = IsUtf8-are_ascii (44 ∷ []) refl
-comma_utf8 false = IsUtf8-are_ascii [] refl
 
 -- ---- lists
 record ItemsBecome (n : ℕ) (ds es : Items) : Type 0 where

@@ -57,10 +57,11 @@ pub fn local_step(
         values_of s.deltas.items n ≡ values_of deltas.now n) }
     ensures rising { IfOk result (λ s. IsStrictlySortedBy nat_cmp s.written.items) }
 {
-    local_step_in(alloc, c, base, deltas, &mut Scratch::new(alloc))
+    let copy = List::from_vec(Vec::from_slice(alloc, deltas)?);
+    local_step_in(alloc, c, base, copy, &mut Scratch::new(alloc))
 }
 
-/// The same, where the lists of an earlier step are used again.
+/// The same on a list of deltas that it takes and that becomes the step's, where the lists of an earlier step are used again.
 ///
 /// # Errors
 ///
@@ -69,24 +70,24 @@ pub fn local_step_in(
     alloc: Global,
     c: &LCommand,
     base: &[i64],
-    deltas: &[i64],
+    deltas: Database,
     scratch: &mut Scratch,
 ) -> Result<LocalStep, Memory>
-    requires places { has_places (own_shape (length deltas.now)) (plain_lcommand c.now) ≡ true }
-    requires sums { (n : ℕ) → FitsSigned w64 (own_values base.now deltas.now n) }
-    requires small { can_exec run_limit (plain_lcommand c.now) (whole (own_values base.now deltas.now)) ≡ true }
-    ensures prints { IfOk result (λ s. s.prints.items ≡ (exec (plain_lcommand c.now) (whole (own_values base.now deltas.now))).prints) }
+    requires places { has_places (own_shape (length deltas.items)) (plain_lcommand c.now) ≡ true }
+    requires sums { (n : ℕ) → FitsSigned w64 (own_values base.now deltas.items n) }
+    requires small { can_exec run_limit (plain_lcommand c.now) (whole (own_values base.now deltas.items)) ≡ true }
+    ensures prints { IfOk result (λ s. s.prints.items ≡ (exec (plain_lcommand c.now) (whole (own_values base.now deltas.items))).prints) }
     ensures deltas { IfOk result (λ s. (n : ℕ) →
-        let v = (exec (plain_lcommand c.now) (whole (own_values base.now deltas.now))).state (BaseAt n) in
+        let v = (exec (plain_lcommand c.now) (whole (own_values base.now deltas.items))).state (BaseAt n) in
         FitsSigned w64 (v -ℤ values_of base.now n) → values_of s.deltas.items n ≡ v -ℤ values_of base.now n) }
-    ensures count { IfOk result (λ s. length s.deltas.items ≡ length deltas.now) }
+    ensures count { IfOk result (λ s. length s.deltas.items ≡ length deltas.items) }
     ensures written { IfOk result (λ s. (n : ℕ) → list_any (λ m. n == m) s.written.items ≡ false →
-        values_of s.deltas.items n ≡ values_of deltas.now n) }
+        values_of s.deltas.items n ≡ values_of deltas.items n) }
     ensures rising { IfOk result (λ s. IsStrictlySortedBy nat_cmp s.written.items) }
 {
     let mut state = Own {
         base,
-        deltas: scratch.copy_of(alloc, deltas)?,
+        deltas: deltas.into_vec(),
         temporaries: scratch.temporaries(alloc),
         written: Vec::new(alloc),
     };

@@ -11,5 +11,3 @@ padded_more (x ∷ xs) a (suc m) = padded_more xs a m
 
 pub padded_set : {X : Type 0} (xs : List X) (n : ℕ) (v a : X) (m : ℕ) → n < length xs → get_or (set xs n v) m a ≡ cond (n == m) v (get_or xs m a)
 padded_set xs n v a m h = grind (arith, common_steps, nat_tests)
-
-pub ruleset padded = (padded_more, padded_set)

@@ -13,7 +13,7 @@ abbrev pub Every : (SitedCall → Type 0) → List SitedCall → Type 0
 Every P [] = Unit {0}
 Every P (c ∷ cs) = P c × Every P cs
 
-every_first : (P : SitedCall → Type 0) (cs ds : List SitedCall) → Every P (cs ++ ds) → Every P cs × Every P ds
+pub every_first : (P : SitedCall → Type 0) (cs ds : List SitedCall) → Every P (cs ++ ds) → Every P cs × Every P ds
 every_first P [] ds h = (tt, h)
 every_first P (c ∷ cs) ds h = let k = every_first P cs ds h.1 in ((h.0, k.0), k.1)
 

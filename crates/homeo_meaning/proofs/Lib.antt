@@ -1,9 +1,11 @@
 pub mod AbortEquations
 pub mod AbsentItems
 pub mod FaultParts
+pub mod FewClients
 pub mod GroundCalls
 pub mod LightCalls
 pub mod Numbers
+pub mod Parts
 pub mod RisingNumbers
 pub mod SomeValues
 pub mod Sound
@@ -12,4 +14,5 @@ pub mod SoundRules
 pub mod Starts
 pub mod Steps
 pub mod TransactionPlaces
+pub mod ValueLists
 pub mod Within

@@ -129,7 +129,7 @@ objects-fit w e =
     let declared : made (map object_making w.objects) ≡ length (map declared_object w.objects) = by_objects [] w.objects ∙ zero-add (length w.objects) ∙ sym (length-map w.objects declared_object) in
     subst (λ n. n ≤ 1024) (sym (by_relations (map object_making w.objects) (length (map declared_object w.objects)) w.relations declared)) few
 
-count_grows : (k : ℕ) (rs : List Relation) → k ≤ object_count k rs
+pub count_grows : (k : ℕ) (rs : List Relation) → k ≤ object_count k rs
 unfolding definitions
 count_grows k [] = omega arith
 count_grows k (r ∷ rs) = let h : k + r.slots * (1 + length r.fields) ≤ object_count (k + r.slots * (1 + length r.fields)) rs = count_grows (k + r.slots * (1 + length r.fields)) rs in omega arith

@@ -21,6 +21,7 @@ use Rattle.homeo_meaning.specs.CallRules.{call_faults, client_faults}
 use Rattle.homeo_meaning.specs.CallForm.{body_form, call_form}
 use Rattle.homeo_meaning.specs.SizeRules.{heaviest, heavy_call, weight_faults}
 use Rattle.homeo_meaning.specs.LowWeights.{first_weights, is_light}
+use Rattle.homeo_meaning.specs.Declarations.{declarations, place_from, place_of}
 use Rattle.homeo_meaning.specs.Faults.{declared_faults}
 use Rattle.homeo_meaning.specs.declared.rules.Fault.{Fault}
 use Rattle.homeo_meaning.specs.declared.rules.Item.{Item}
@@ -71,6 +72,7 @@ pub record Names (ts : List s.Transaction) (i n k : ℕ) : Type 0 where
   pub found : find (λ (t : s.Transaction). t.name.name == n) ts ≡ slice_get ts place
   pub transaction : s.Transaction
   pub there : find (λ (t : s.Transaction). t.name.name == n) ts ≡ Some transaction
+  pub first : place_from i (map (λ (t : s.Transaction). t.name.name) ts) n ≡ k
 
 -- a number of a transaction
 abbrev number_of : Option Item → Option ℕ
@@ -100,15 +102,19 @@ unfolding definitions
 the_transaction n i [] cs k e = absurd (no_client n 0 cs k e)
 the_transaction n i (t ∷ ts) cs k e = found_in (t.name.name == n) refl (the_transaction n (i + 1) ts cs k) e
   where
+    names : List ℕ
+    names = map (λ (u : s.Transaction). u.name.name) ts
+
     found_in : (b : Bool) → (t.name.name == n) ≡ b → (first_named (numbered_from I.Transaction (i + 1) (map (λ t. t.name) ts) ++ numbered_from I.Client 0 cs) n ≡ Some (I.Transaction k) → Names ts (i + 1) n k) → cond b (Some (I.Transaction i)) (first_named (numbered_from I.Transaction (i + 1) (map (λ t. t.name) ts) ++ numbered_from I.Client 0 cs) n) ≡ Some (I.Transaction k) → Names (t ∷ ts) i n k
     found_in true h rest e =
         let same : Some i ≡ Some k = ap number_of e in
         let is : i ≡ k = cc in
-        record { place = 0; after = sym is ∙ sym (add-zero i); found = ap (λ (b : Bool). cond b (Some t) (find (λ (u : s.Transaction). u.name.name == n) ts)) h; transaction = t; there = ap (λ (b : Bool). cond b (Some t) (find (λ (u : s.Transaction). u.name.name == n) ts)) h }
+        record { place = 0; after = sym is ∙ sym (add-zero i); found = ap (λ (b : Bool). cond b (Some t) (find (λ (u : s.Transaction). u.name.name == n) ts)) h; transaction = t; there = ap (λ (b : Bool). cond b (Some t) (find (λ (u : s.Transaction). u.name.name == n) ts)) h; first = ap (λ (b : Bool). cond b i (place_from (suc i) names n)) h ∙ is }
     found_in false h rest e =
         let r : Names ts (i + 1) n k = rest e in
         let a : k ≡ i + 1 + r.place = r.after in
-        record { place = suc r.place; after = omega arith; found = ap (λ (b : Bool). cond b (Some t) (find (λ (u : s.Transaction). u.name.name == n) ts)) h ∙ r.found; transaction = r.transaction; there = ap (λ (b : Bool). cond b (Some t) (find (λ (u : s.Transaction). u.name.name == n) ts)) h ∙ r.there }
+        let next : suc i ≡ i + 1 = omega arith in
+        record { place = suc r.place; after = omega arith; found = ap (λ (b : Bool). cond b (Some t) (find (λ (u : s.Transaction). u.name.name == n) ts)) h ∙ r.found; transaction = r.transaction; there = ap (λ (b : Bool). cond b (Some t) (find (λ (u : s.Transaction). u.name.name == n) ts)) h ∙ r.there; first = ap (λ (b : Bool). cond b i (place_from (suc i) names n)) h ∙ ap (λ (j : ℕ). place_from j names n) next ∙ r.first }
 
 pub names_of : (w : s.Workload) (n k : ℕ) → (scope_of w).item n ≡ Some (I.Transaction k) → Names w.transactions 0 n k
 unfolding definitions
@@ -129,6 +135,11 @@ named-is w n k e =
     let f : Names w.transactions 0 n k = names_of w n k e in
     let place : f.place ≡ k = sym (zero-add f.place) ∙ sym f.after in
     f.found ∙ ap (slice_get w.transactions) place
+
+-- whose number is that of its name
+pub place-is : (w : s.Workload) (n k : ℕ) → (scope_of w).item n ≡ Some (I.Transaction k) → place_of (declarations w).transactions n ≡ k
+unfolding definitions
+place-is w n k e = (names_of w n k e).first
 
 -- a call without a fault names a transaction
 pub names_one : (w : s.Workload) (c : s.Call) (g : Option Item) → call_faults w.transactions g c ≡ [] → (k : ℕ) × (g ≡ Some (I.Transaction k))

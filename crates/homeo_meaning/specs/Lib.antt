@@ -9,7 +9,10 @@ pub mod Calls
 pub mod Computed
 pub mod Context
 pub mod Declarations
+pub mod Everywhere
 pub mod Faults
+pub mod Findings
+pub mod Forms
 pub mod GlobalNames
 pub mod Ground
 pub mod Initial
@@ -34,4 +37,5 @@ pub mod Small
 pub mod TransactionRules
 pub mod Verdict
 pub mod Whole
+pub mod Windowed
 pub mod inner

@@ -6,11 +6,15 @@ mod aborts;
 mod accepted;
 mod call;
 mod database;
+mod findings;
 pub mod padded;
 mod rules;
+mod window;
 
 pub use aborts::{hold_abort, holds_abort};
 pub use accepted::Accepted;
 pub use call::{CallId, GroundCall, Purpose};
 pub use database::Database;
+pub use findings::Findings;
 pub use rules::{Binding, Fault, Item, Local, Phase};
+pub use window::Window;

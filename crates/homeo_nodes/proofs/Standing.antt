@@ -11,15 +11,15 @@ use Rattle.homeo_lemmas.proofs.Places.{one_placed, get_left}
 use Rattle.homeo_syntax.specs.Source as s
 use Rattle.homeo_meaning.specs.Acceptance.{IsAccepted}
 use Rattle.homeo_meaning.specs.Initial.{initial}
-use Rattle.homeo_plan.specs.Planned.{sites_of}
 use Rattle.homeo_history.specs.History.{Round}
-use Rattle.homeo_history.specs.Legal.{IsFramed, IsAtSites, RunsTo, IsSerialFrom}
+use Rattle.homeo_history.specs.Legal.{IsSerialFrom}
 use Rattle.homeo_history.specs.Replayed.{IsReplayed}
 use Rattle.homeo_history.proofs.Lists.{get_map_back, get_end}
-use Rattle.homeo_history.proofs.Rounds.{first_is, only_last, serial_end}
+use Rattle.homeo_history.proofs.Rounds.{serial_end}
 use Rattle.homeo_site.specs.SiteState.{SiteState}
 use Rattle.homeo_core.specs.Joined.{BookState, AreJoined, open_round, gathered, rounds_of}
 use Rattle.homeo_core.specs.Joined as core
+use Rattle.homeo_core.proofs.Joining as joining
 use Rattle.homeo_core.proofs.OpenRound as open_round_facts
 use Rattle.homeo_nodes.specs.declared.breach.Breach.{Breach}
 use Rattle.homeo_nodes.specs.Laws.{journals, HasRun, IsAnswered, IsOnce, IsStory, IsOneRound, OneRound, OneStory, OneEachRound, SentBefore, FewCarried}
@@ -42,29 +42,12 @@ reached_holds w events accepted = events_hold w events (at_start w) accepted (st
 
 -- ---- closed rounds and sites in one round are a serial history
 module _ (w : s.Workload) (start : List ℤ) (b : BookState) (sites : List SiteState) (accepted : IsAccepted w) (joined : AreJoined w start b sites) where
-  framed : IsFramed w start (rounds_of b sites)
-  unfolding core_definitions
-  framed = record {
-    starts = first_is b.closed (open_round b.base sites) ∙ ap Some joined.book.starts;
-    segments = All-push (λ (r : Round). length r.segments ≡ sites_of w) b.closed (open_round b.base sites) joined.book.segments (open_round_facts.count_is w start b sites accepted joined);
-    closed = only_last b.closed (open_round b.base sites) joined.book.closed refl;
-  }
-
-  at_sites : All (IsAtSites w) (rounds_of b sites)
-  unfolding core_definitions
-  at_sites =
-      All-push (IsAtSites w) b.closed (open_round b.base sites) joined.book.at_sites (record { segments = open_round_facts.calls_at w start b sites accepted joined; closing = tt })
-
-  runs : RunsTo w (open_round b.base sites) (gathered b.base sites)
-  unfolding core_definitions history_definitions
-  runs = record { after = gathered b.base sites; merges = open_round_facts.merges w start b sites accepted joined; closes = refl }
-
   pub serial_joined : IsSerialFrom w start (core.history_of b sites)
   unfolding core_definitions
   serial_joined = record {
-    framed = framed;
-    at_sites = at_sites;
-    serial = serial_end w b.closed (open_round b.base sites) (gathered b.base sites) joined.book.serial runs;
+    framed = joining.framed w start b sites accepted joined;
+    at_sites = joining.at_sites w start b sites accepted joined;
+    serial = serial_end w b.closed (open_round b.base sites) (gathered b.base sites) joined.book.serial (joining.runs w start b sites accepted joined);
     replayed = All-push (IsReplayed w) b.closed (open_round b.base sites) joined.book.replayed (record { segments = open_round_facts.keeps_at w start b sites accepted joined; closing = tt });
   }
 

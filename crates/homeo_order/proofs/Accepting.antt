@@ -1,5 +1,5 @@
 -- Where no rule is broken, the schedule runs every call of every client.
-use Rattle.std.proofs.Common.{◌≡◌, ◌<◌, ◌≤◌, ◌+◌, ◌∙◌, ◌++◌, ◌==◌, ℕ, zero, suc, Bool, true, false, cond, List, [], ◌∷◌, length, map, refl, sym, ap, subst, arith, append_assoc, append-nil, length-append, ◌⊎◌, inl, inr}
+use Rattle.std.proofs.Common.{◌≡◌, ◌<◌, ◌≤◌, ◌+◌, ◌∙◌, ◌++◌, ◌==◌, ℕ, zero, suc, Bool, true, false, cond, List, [], ◌∷◌, length, map, refl, sym, ap, subst, arith, append_assoc, append-nil, ◌⊎◌, inl, inr}
 use Rattle.std.specs.Prelude.{All, Option, Some, None, slice_get, if◌then◌else◌, nat_lt}
 use Rattle.std.specs.List.{list_any}
 use Rattle.std.proofs.lemmas.List.{map-append}
@@ -17,9 +17,10 @@ use Rattle.homeo_meaning.specs.NameRules.{when}
 use Rattle.homeo_meaning.specs.TransactionRules.{each, each_from, is_in}
 use Rattle.homeo_meaning.specs.GlobalNames.{GlobalName, global_names, numbered_from, first_named, duplicate, scope_of}
 use Rattle.homeo_meaning.specs.CallRules.{times, call_count, scheduled, is_short, end_fault, schedule_faults}
-use Rattle.homeo_meaning.specs.NumberRules.{passes_limit, limit_faults}
 use Rattle.homeo_meaning.specs.Faults.{faults}
-use Rattle.homeo_meaning.proofs.FaultParts.{none_first, none_second, parts, limit_parts}
+use Rattle.homeo_meaning.proofs.FaultParts.{none_first, none_second, parts}
+use Rattle.homeo_meaning.proofs.FewClients.{few_clients}
+use Rattle.homeo_meaning.proofs.SoundRelations.{when_none}
 use Rattle.homeo_meaning.specs.declared.call.Purpose.TheVariants.{Steps}
 use Rattle.homeo_meaning.specs.Declarations.{place_of, place_from}
 use Rattle.homeo_meaning.specs.declared.rules.Fault.{Fault}
@@ -29,12 +30,6 @@ use Rattle.homeo_order.specs.Key.{definitions}
 use Rattle.homeo_order.specs.Order.{client_names, order_of}
 use Rattle.homeo_order.specs.Scheduled.{IsWholeOrder}
 use Rattle.homeo_order.proofs.Scheduling.{times-snoc}
-
--- ---- lists of faults that are empty
-when_none : (b : Bool) (f : Fault) → when b (f ∷ []) ≡ [] → b ≡ false
-unfolding meaning_definitions
-when_none true f e = absurd (cc)
-when_none false f e = refl
 
 not_less : (m n : ℕ) → nat_lt m n ≡ false → n ≤ m
 not_less m n e = grind (arith, nat_tests)
@@ -289,22 +284,6 @@ whole_in w (Some xs) k c none found is =
     let most = most_times w k c [] xs found is (none_first (each_from (order_rule w) [] xs) (when (is_short w.clients xs) (end_fault w.end)) none) (omega arith) in
     let least = not_short w.clients xs k c (when_none (is_short w.clients xs) _ (none_second (each_from (order_rule w) [] xs) (when (is_short w.clients xs) (end_fault w.end)) none)) found in
     omega (arith, most, least)
-
--- as many items as a limit allows
-pub few_from : {A : Type 0} (limit : ℕ) (name : A → Ident) (before xs : List A) → length before ≤ limit → each_from (passes_limit limit name) before xs ≡ [] → length before + length xs ≤ limit
-unfolding meaning_definitions
-few_from limit name before [] most none = omega (arith, most)
-few_from limit name before (x ∷ xs) most none =
-    let here : length before ≡ limit → ⊥ = eqb-false (length before) limit (when_none (length before == limit) _ (none_first (passes_limit limit name before x) (each_from (passes_limit limit name) (before ++ x ∷ []) xs) none)) in
-    let longer : length (before ++ x ∷ []) ≡ length before + 1 = length-append before (x ∷ []) in
-    let next : length (before ++ x ∷ []) ≤ limit = omega (arith, most, here, longer) in
-    let whole = few_from limit name (before ++ x ∷ []) xs next (none_second (passes_limit limit name before x) (each_from (passes_limit limit name) (before ++ x ∷ []) xs) none) in
-    omega (arith, whole, longer)
-
-few_clients : (w : s.Workload) → limit_faults w ≡ [] → length w.clients ≤ 64
-unfolding meaning_definitions
-few_clients w none =
-    let many = few_from 64 (λ (c : s.Client). c.name) [] w.clients (omega arith) (limit_parts w none).clients in omega (arith, many)
 
 pub whole_order : (w : s.Workload) → IsWellFormed w → faults Steps w ≡ [] → IsWholeOrder w
 whole_order w formed none =

@@ -12,6 +12,7 @@ use Rattle.homeo_meaning.specs.declared.call.CallId.{CallId}
 use Rattle.homeo_meaning.specs.CallRules.{times}
 use Rattle.homeo_meaning.specs.Declarations.{place_of, place_from}
 use Rattle.homeo_meaning.specs.Key.{definitions as meaning_definitions}
+use Rattle.homeo_context.proofs.Relations.{place_least}
 use Rattle.homeo_history.specs.Legal.{call_count}
 use Rattle.homeo_history.specs.Key.{definitions as history_definitions}
 use Rattle.homeo_order.specs.Key.{definitions}
@@ -19,20 +20,11 @@ use Rattle.homeo_order.specs.Scheduled.{IsWholeOrder}
 use Rattle.homeo_order.specs.Order.{calls_from, client_names, order_of}
 
 -- ---- names and places
-least : (b : Bool) (j rest : ℕ) → suc j ≤ rest → j ≤ cond b j rest
-least true j rest past = omega arith
-least false j rest past = omega (arith, past)
-
-place_from-ge : (j : ℕ) (ns : List ℕ) (n : ℕ) → j ≤ place_from j ns n
-unfolding meaning_definitions
-place_from-ge j [] n = omega arith
-place_from-ge j (m ∷ ns) n = least (m == n) j (place_from (suc j) ns n) (place_from-ge (suc j) ns n)
-
 first_or_later : (b : Bool) (m j : ℕ) (ns : List ℕ) (n d : ℕ) → (m == n) ≡ b → (place_from (suc j) ns n < suc j + length ns → get_or ns (place_from (suc j) ns n - suc j) d ≡ n)
     → cond b j (place_from (suc j) ns n) < j + length (m ∷ ns) → get_or (m ∷ ns) (cond b j (place_from (suc j) ns n) - j) d ≡ n
 first_or_later true m j ns n d same later less = let none : j - j ≡ 0 = omega arith in rw none ((Decides-eqb m n).0 same)
 first_or_later false m j ns n d same later less =
-    let past = place_from-ge (suc j) ns n in
+    let past = place_least (suc j) ns n in
     let one_more : place_from (suc j) ns n - j ≡ suc (place_from (suc j) ns n - suc j) = omega (arith, past) in
     rw one_more (later (omega (arith, less)))
 

@@ -7,7 +7,6 @@ ghost use Rattle.homeo_outline.specs.Numbers.{has, clauses_on};
 ghost use Rattle.homeo_outline.specs.inner.Alike.{AreAlike};
 
 use crate::outline::Outline;
-use crate::uses::numbers_at;
 use homeo_meaning::padded::item_or;
 use homeo_plan::Term;
 use homeo_syntax::{List, Memory};
@@ -57,7 +56,12 @@ impl Leaders {
     pub fn on(&self, object: u32) -> &[u32]
         ensures { result.now ≡ slice_index_or self.now object [] }
     {
-        numbers_at(self.numbers.as_slice(), object as usize)
+        let place = object as usize;
+        if place < self.numbers.len() {
+            self.numbers[place].as_slice()
+        } else {
+            &[]
+        }
     }
 }
 

@@ -6,6 +6,7 @@ ghost use Rattle.homeo_outline.specs.Numbers.{has, clauses_on, freezes_on};
 use crate::uses::{clause_uses, freeze_uses, numbers_at};
 use homeo_plan::{Delta, Term};
 use homeo_syntax::{List, Memory};
+use smallvec::SmallVec;
 use std::alloc::Global;
 use std::marker::Model;
 
@@ -16,8 +17,8 @@ pub struct Outline {
     sites: u32,
     terms: List<List<Term>>,
     freezes: List<Delta>,
-    clause_uses: Vec<Vec<u32>>,
-    freeze_uses: Vec<Vec<u32>>,
+    clause_uses: Vec<SmallVec<u32, 4>>,
+    freeze_uses: Vec<SmallVec<u32, 4>>,
 }
 
 impl Model for Outline {

@@ -6,17 +6,23 @@ ghost use Rattle.homeo_outline.specs.inner.Uses.{at_object, KeepsClauses, KeepsF
 
 use homeo_plan::{Delta, Term};
 use homeo_syntax::{List, Memory};
+use smallvec::SmallVec;
 use std::alloc::Global;
 
 /// Puts a number at an object.
-fn note(alloc: Global, uses: &mut Vec<Vec<u32>>, object: u32, number: u32) -> Result<(), Memory>
+fn note(
+    alloc: Global,
+    uses: &mut Vec<SmallVec<u32, 4>>,
+    object: u32,
+    number: u32,
+) -> Result<(), Memory>
     ensures { OnOk result ((x : ℕ) → at_object x (map (λ v. v.items) uses.new.items) ≡
         if object == x then at_object x (map (λ v. v.items) uses.old.items) ++ number ∷ []
         else at_object x (map (λ v. v.items) uses.old.items)) }
 {
     let place = object as usize;
     while uses.len() <= place {
-        uses.push(Vec::new(alloc))?;
+        uses.push(SmallVec::new(alloc))?;
     }
     uses[place].push(number)?;
     Ok(())
@@ -25,7 +31,7 @@ fn note(alloc: Global, uses: &mut Vec<Vec<u32>>, object: u32, number: u32) -> Re
 /// Puts a number at each object that a term is on.
 fn note_terms(
     alloc: Global,
-    uses: &mut Vec<Vec<u32>>,
+    uses: &mut Vec<SmallVec<u32, 4>>,
     number: u32,
     terms: &[Term],
 ) -> Result<(), Memory>
@@ -39,7 +45,10 @@ fn note_terms(
 }
 
 /// The numbers of clauses with these terms, from 0, at the objects that they name.
-pub(crate) fn clause_uses(alloc: Global, clauses: &[List<Term>]) -> Result<Vec<Vec<u32>>, Memory>
+pub(crate) fn clause_uses(
+    alloc: Global,
+    clauses: &[List<Term>],
+) -> Result<Vec<SmallVec<u32, 4>>, Memory>
     requires { length clauses.now < 2 ^ 32 }
     ensures { IfOk result (λ u. KeepsClauses (map (λ l. l.items) clauses.now) (map (λ v. v.items) u.items)) }
 {
@@ -57,7 +66,7 @@ pub(crate) fn freeze_uses(
     alloc: Global,
     first: u32,
     freezes: &[Delta],
-) -> Result<Vec<Vec<u32>>, Memory>
+) -> Result<Vec<SmallVec<u32, 4>>, Memory>
     requires { first + length freezes.now < 2 ^ 32 }
     ensures { IfOk result (λ u. KeepsFreezes first freezes.now (map (λ v. v.items) u.items)) }
 {
@@ -71,7 +80,7 @@ pub(crate) fn freeze_uses(
 }
 
 /// Lends the numbers at an object.
-pub(crate) fn numbers_at(uses: &[Vec<u32>], object: usize) -> &[u32]
+pub(crate) fn numbers_at(uses: &[SmallVec<u32, 4>], object: usize) -> &[u32]
     ensures { result.now ≡ at_object object (map (λ v. v.items) uses.now) }
 {
     if object < uses.len() {

@@ -15,12 +15,12 @@ use Rattle.homeo_meaning.proofs.Within.{all_within}
 use Rattle.homeo_plan.specs.SmallForms.{HasSmallForms}
 use Rattle.homeo_plan.specs.Split.{shift}
 use Rattle.homeo_plan.specs.Table.{walk}
-use Rattle.homeo_plan.proofs.GroundForms.{ground_whole}
 use Rattle.homeo_plan.proofs.GroundNumbers.{values_small}
 use Rattle.homeo_plan.proofs.SmallForms.{small_forms}
 use Rattle.homeo_meaning.specs.Ground.{Ground}
 use Rattle.homeo_meaning.specs.Calls.{IsGroundCall}
 use Rattle.homeo_meaning.specs.LowMeaning.{whole}
+use Rattle.homeo_lform.proofs.Wholes.{ground_whole}
 
 pub accepted_forms :
     (w : s.Workload) (g : Ground) (k i : ℕ) (base : List ℤ) → IsAccepted w → IsGroundCall w g.transaction g.args →

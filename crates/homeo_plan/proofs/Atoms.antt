@@ -218,3 +218,18 @@ module _ (b : ℕ → ℤ) where
             → (v && holds c (whole b)) ≡ false → Each IsBelowAtBase (cond v (false_cond b c) (false_test b t))
         first_false true q hc ht e = hc e
         first_false false q hc ht e = ht q
+
+-- ---- what holds of the difference of two forms, where it holds of both, holds of each atom of their comparison
+module _ (P : Linear → Type 0) (apart : (a b : Linear) (n : ℤ) → P a → P b → P (difference a b n)) where
+  pub each_true : (op : Compare) (a b : Linear) → P a → P b → Each P (true_comparison op a b)
+  unfolding definitions
+  each_true Less a b h k = (apart a b (pos 1) h k, tt)
+  each_true LessEqual a b h k = (apart a b (pos 0) h k, tt)
+  each_true Equal a b h k = (apart a b (pos 0) h k, (apart b a (pos 0) k h, tt))
+
+  pub each_false : (op : Compare) (v : Bool) (a b : Linear) → P a → P b → Each P (false_comparison op v a b)
+  unfolding definitions
+  each_false Less v a b h k = (apart b a (pos 0) k h, tt)
+  each_false LessEqual v a b h k = (apart b a (pos 1) k h, tt)
+  each_false Equal true a b h k = (apart a b (pos 1) h k, tt)
+  each_false Equal false a b h k = (apart b a (pos 1) k h, tt)

@@ -11,7 +11,8 @@ use Rattle.homeo_syntax.specs.Low.{Command, Commands, Skip, Assign, Write, Print
 use Rattle.homeo_meaning.specs.LowMeaning.{Location, TempAt, BaseAt, DeltaAt, State, location_of, same_temp, same_location, put, holds, exec}
 use Rattle.homeo_meaning.specs.LowWeights.{weight, after, after_all, is_light_cond, is_light, are_light}
 use Rattle.homeo_meaning.specs.Small.{IsSmall}
-use Rattle.homeo_meaning.specs.Whole.{IsWhole, AreWhole}
+use Rattle.homeo_meaning.specs.Whole.{IsWhole}
+use Rattle.homeo_meaning.proofs.Parts.{AreWhole}
 use Rattle.homeo_lform.proofs.Light.{weight_small}
 use Rattle.homeo_plan.specs.Split.{shift_expr, shift_cond, shift, shift_all}
 use Rattle.homeo_plan.specs.Table.{Row, test_before, otherwise, walk_before, walk_all_before}
@@ -23,7 +24,8 @@ use Rattle.homeo_plan.proofs.Others.{Shape}
 use Rattle.homeo_plan.proofs.Replaced.{can_replace_cond}
 use Rattle.homeo_plan.proofs.Cleared.{can_both}
 use Rattle.homeo_plan.proofs.WholeReads.{Own, Holds}
-use Rattle.homeo_plan.proofs.Made.{make, one_weight}
+use Rattle.homeo_lform.proofs.Weights.{one_weight}
+use Rattle.homeo_plan.proofs.Made.{make}
 use Rattle.homeo_plan.proofs.MadeTests.{made_cond}
 use Rattle.homeo_plan.proofs.Written.{own_value, written}
 
@@ -121,7 +123,7 @@ module _ (b k i : ℕ) (base : ℕ → ℤ) (inside : i < k) (small : (x : ℕ) 
     follow Skip w v s f h l = record { after = h; formula = λ r c. c; residual = λ r c. c }
     follow (Assign t e) w v s f h l =
         let small_weight = weight_small b v e l in
-        let r = make b k i base inside small v f h e w small_weight in
+        let r = make b k i base inside small v f h e w.1 small_weight in
         record {
           after = holds_temp k i base v f t (weight e v) (form f (shift_expr k e)) h (one_weight v h.ones e) r.within;
           formula = λ q c. can_replace_cond P (TempAt t) (shift_expr k e) f r.can q.formula c;

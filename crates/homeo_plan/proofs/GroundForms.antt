@@ -1,4 +1,4 @@
--- The L form of a ground call names whole objects only, and keeps within bounds.
+-- The L form of a ground call keeps within bounds.
 use Rattle.homeo_meaning.specs.Key.{definitions as meaning_definitions}
 use Rattle.std.proofs.Common.{ℕ, List, map, slice_get, ℤ, Option, Some, None, sym, subst}
 use Rattle.homeo_syntax.specs.Source as s
@@ -10,21 +10,10 @@ use Rattle.homeo_meaning.specs.LowMeaning as M
 use Rattle.homeo_meaning.specs.Meaning.{run}
 use Rattle.homeo_meaning.specs.SameRun.{IsSameRun}
 use Rattle.homeo_meaning.specs.Schema.{schema_of}
-use Rattle.homeo_meaning.specs.Whole.{IsWhole}
 use Rattle.homeo_lform.proofs.FormLaw.{form_law}
 use Rattle.homeo_lform.proofs.Stays.{bounds_law}
-use Rattle.homeo_lform.proofs.Wholes.{whole_law}
 use Rattle.homeo_plan.specs.Key.{definitions}
 use Rattle.homeo_plan.specs.Replay.{Stays}
-
-body_whole : (w : s.Workload) (t : Option s.Transaction) (args : List ℤ) → IsWhole (body_form w t args)
-unfolding definitions meaning_definitions
-body_whole w None args = tt
-body_whole w (Some t) args = whole_law (schema_of w) (map (λ p. p.name.name) t.params) args t.body
-
-pub ground_whole : (w : s.Workload) (g : Ground) → IsWhole (ground_form w g)
-unfolding meaning_definitions
-ground_whole w g = body_whole w (slice_get w.transactions g.transaction) g.args
 
 body_stays : (w : s.Workload) (t : Option s.Transaction) (args : List ℤ) → Stays (schema_of w) (body_form w t args)
 unfolding definitions meaning_definitions

@@ -7,35 +7,20 @@ use Rattle.std.proofs.lemmas.Int.{ints}
 use Rattle.homeo_lemmas.proofs.Naturals.{product_positive, factor_le}
 use Rattle.homeo_syntax.specs.declared.low.SplitName.TheVariants as split
 use Rattle.homeo_syntax.specs.Low.{Expr, Exprs, Literal, OfTemp, Read, Sum, Product, Neg, NoExpr, MoreExpr}
-use Rattle.homeo_meaning.specs.LowMeaning.{Location, TempAt, BaseAt, DeltaAt, location_of}
+use Rattle.homeo_meaning.specs.LowMeaning.{Location, TempAt, BaseAt, DeltaAt}
 use Rattle.homeo_meaning.specs.LowWeights.{weight, sum_weight, product_weight}
 use Rattle.homeo_meaning.specs.Small.{IsSmall}
-use Rattle.homeo_meaning.specs.Whole.{IsWholeExpr, AreWholeExprs}
+use Rattle.homeo_meaning.proofs.Parts.{IsWholeExpr, AreWholeExprs}
 use Rattle.homeo_plan.specs.Split.{shift_read, shift_expr, shift_exprs}
 use Rattle.homeo_plan.specs.declared.forms.Delta.{Delta}
 use Rattle.homeo_plan.specs.Linear.{Linear, add_terms, constant_form, add_forms, multiply_forms, Forms, form, sum_form, product_form}
 use Rattle.homeo_plan.specs.FormSizes.{Numbers, CanForm, CanSum, CanProduct}
 use Rattle.homeo_plan.proofs.Factors.{factor, add_terms_factor}
 use Rattle.homeo_plan.proofs.Order.{sorted_adds}
+use Rattle.homeo_lform.proofs.Weights.{one_weight, one_product}
 use Rattle.homeo_plan.proofs.Sizes.{Within, numbers, wider, within_constant, within_add, within_negated, within_multiply}
 use Rattle.homeo_plan.proofs.Others.{others_from, IsBit, others_bit, shape_within}
 use Rattle.homeo_plan.proofs.WholeReads.{Own, Holds, Part, before_own}
-
-module _ (w : Location → ℕ) (ones : (p : Location) → 1 ≤ w p) where
-  mutual
-    unfolding definitions meaning_definitions
-
-    pub one_weight : (e : Expr) → 1 ≤ weight e w
-    one_weight (Literal n) = omega arith
-    one_weight (OfTemp t) = ones (TempAt t)
-    one_weight (Read x) = ones (location_of x)
-    one_weight (Sum es) = omega arith
-    one_weight (Product es) = one_product es
-    one_weight (Neg e) = one_weight e
-
-    pub one_product : (es : Exprs) → 1 ≤ product_weight es w
-    one_product NoExpr = omega arith
-    one_product (MoreExpr e es) = product_positive (weight e w) (product_weight es w) (one_weight e) (one_product es)
 
 -- the numbers of the way, and the form within n
 pub record Made (Can : Type 0) (n : ℕ) (a : Linear) : Type 0 where

@@ -44,7 +44,7 @@ zero_keeps_clauses k i (c ∷ cs) [] f = absurd f
 zero_keeps_clauses k i (c ∷ cs) (n ∷ bs) f =
     (subst (λ z. z ≤ℤ bound_at n i) (sym (site_sum_zero i c.terms)) (bound_not_negative n i f.0.not_negative), zero_keeps_clauses k i cs bs f.1)
 
-zero_keeps_freezes : (i : ℕ) (ds : List Delta) → KeepsFreezes i no_deltas ds
+pub zero_keeps_freezes : (i : ℕ) (ds : List Delta) → KeepsFreezes i no_deltas ds
 unfolding definitions meaning_definitions
 zero_keeps_freezes i [] = tt
 zero_keeps_freezes i (e ∷ ds) = (λ q. refl, zero_keeps_freezes i ds)
@@ -73,7 +73,7 @@ unfolding definitions meaning_definitions
 only_here i x =
     let q : (i == i) ≡ true = grind (arith, nat_tests) in ap (λ (v : Bool). let d : Deltas = cond v x no_deltas in d) q
 
-only_again : (i : ℕ) (x y : Deltas) → with_site (only i x) i y ≡ only i y
+pub only_again : (i : ℕ) (x y : Deltas) → with_site (only i x) i y ≡ only i y
 unfolding definitions meaning_definitions
 only_again i x y = fun_ext (λ j. go (i == j))
   where

@@ -18,11 +18,12 @@ use Rattle.homeo_plan.specs.Planned.{sites_of, planned_call, planned, template_a
 use Rattle.homeo_plan.specs.Soundness.{GroundSoundness}
 use Rattle.homeo_plan.specs.Replay.{Stays, CanStep, KeepsAlong}
 use Rattle.homeo_plan.proofs.Covering.{template_covers}
-use Rattle.homeo_plan.proofs.GroundForms.{ground_whole, ground_stays}
+use Rattle.homeo_plan.proofs.GroundForms.{ground_stays}
 use Rattle.homeo_plan.proofs.Local.{locally_sound}
 use Rattle.homeo_plan.proofs.OwnWithin.{zero_keeps, own_within}
 use Rattle.homeo_plan.proofs.Policy.{policy_fits}
 use Rattle.homeo_meaning.specs.Acceptance.{IsAccepted}
+use Rattle.homeo_lform.proofs.Wholes.{ground_whole}
 
 -- ---- the ground calls
 pub record IsPlanned (w : s.Workload) (g : PlannedCall) : Type 0 where

@@ -1,10 +1,11 @@
 -- How large the numbers of sums, negations and products of forms are.
 use Rattle.homeo_plan.specs.Key.{definitions}
 use Rattle.homeo_meaning.specs.Key.{definitions as meaning_definitions}
-use Rattle.std.proofs.Common.{◌≡◌, ℕ, ◌+◌, ◌*◌, ◌≤◌, Bool, true, false, cond, List, [], ◌∷◌, ℤ, negsuc, ◌+ℤ◌, ◌*ℤ◌, sym, subst, arith}
+use Rattle.std.proofs.Common.{◌≡◌, ℕ, ◌+◌, ◌*◌, ◌≤◌, Bool, true, false, cond, List, [], ◌∷◌, ℤ, negsuc, ◌*ℤ◌, sym, subst, arith}
 use Rattle.std.specs.Int.RustNames.{unsigned_abs}
 use Rattle.std.proofs.lemmas.Int.{ints, unsigned_abs-mul}
 use Rattle.std.proofs.lemmas.Nat.{mul-le}
+use Rattle.homeo_lemmas.proofs.Integers.{abs_add}
 use Rattle.homeo_meaning.specs.Small.{IsSmall}
 use Rattle.homeo_plan.specs.Each.{Each}
 use Rattle.homeo_plan.specs.declared.forms.Delta.{Delta}
@@ -13,9 +14,6 @@ use Rattle.homeo_plan.specs.Linear.{Linear, constant_form, add_forms, scale_form
 use Rattle.homeo_plan.specs.FormSizes.{Numbers}
 use Rattle.homeo_plan.proofs.Factors.{factor, add_terms_factor, scale_terms_factor}
 use Rattle.homeo_plan.proofs.Order.{Sorted, sorted_adds, sorted_scale, small_terms}
-
-abs_add : (a b : ℤ) → unsigned_abs (a +ℤ b) ≤ unsigned_abs a + unsigned_abs b
-abs_add a b = grind (arith, ints)
 
 -- the constant and each factor are at most n in size
 pub record Within (n : ℕ) (a : Linear) : Type 0 where

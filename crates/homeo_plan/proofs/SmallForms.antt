@@ -1,14 +1,14 @@
 -- Where a command is light, the forms along its row are small.
 use Rattle.homeo_plan.specs.Key.{definitions}
 use Rattle.homeo_meaning.specs.Key.{definitions as meaning_definitions}
-use Rattle.std.proofs.Common.{◌≡◌, ℕ, zero, suc, ◌+◌, ◌*◌, ◌≤◌, Bool, true, false, cond, List, [], ◌∷◌, ℤ, pos, ◌+ℤ◌, refl, sym, subst, arith, ◌<◌}
+use Rattle.std.proofs.Common.{◌≡◌, ℕ, zero, ◌+◌, ◌*◌, ◌≤◌, Bool, true, false, cond, ℤ, pos, ◌+ℤ◌, refl, sym, subst, arith, ◌<◌}
 use Rattle.std.specs.Int.RustNames.{unsigned_abs}
 use Rattle.std.proofs.lemmas.Int.{ints}
 use Rattle.homeo_lemmas.proofs.Integers.{plus_zero}
 use Rattle.homeo_meaning.specs.LowMeaning.{Location, TempAt, BaseAt, DeltaAt, whole}
 use Rattle.homeo_meaning.specs.LowWeights.{first_weights, is_light}
 use Rattle.homeo_meaning.specs.Schema.{Schema}
-use Rattle.homeo_meaning.specs.Bounds.{Bounds, all_bounds, AllWithin}
+use Rattle.homeo_meaning.specs.Bounds.{all_bounds, AllWithin}
 use Rattle.homeo_meaning.specs.LowWeights.{weight_at}
 use Rattle.homeo_meaning.specs.Small.{IsSmall}
 use Rattle.homeo_plan.specs.Split.{shift}
@@ -25,13 +25,7 @@ use Rattle.homeo_plan.proofs.WholeReads.{Own, Holds}
 use Rattle.homeo_plan.proofs.Followed.{follow}
 use Rattle.homeo_syntax.specs.Low.{Command}
 use Rattle.homeo_meaning.specs.Whole.{IsWhole}
-use Rattle.homeo_lform.proofs.Light.{size_at}
-
-pub one_at : (bs : List Bounds) (n : ℕ) → 1 ≤ weight_at bs n
-unfolding meaning_definitions
-one_at [] n = omega arith
-one_at (b ∷ bs) zero = omega arith
-one_at (b ∷ bs) (suc n) = one_at bs n
+use Rattle.homeo_lform.proofs.Light.{size_at, one_at}
 
 one_of : (o : ℤ) (b : Bool) → IsBit o → (b ≡ true → o ≡ pos 0) → unsigned_abs (o +ℤ (cond b (pos 1) (pos 0) +ℤ pos 0)) ≤ 1
 one_of o true t h =

@@ -23,11 +23,11 @@ use Rattle.homeo_meaning.specs.Serial.{values_of}
 use Rattle.homeo_meaning.specs.Small.{IsSmall}
 use Rattle.homeo_meaning.proofs.Within.{all_within, length_in}
 use Rattle.homeo_lform.proofs.NamedWithin.{named_law}
+use Rattle.homeo_lform.proofs.Wholes.{ground_whole}
 use Rattle.homeo_plan.specs.Key.{definitions}
 use Rattle.homeo_plan.specs.Split.{fold_state, shift}
 use Rattle.homeo_plan.specs.Table.{HasNoTemps}
 use Rattle.homeo_plan.proofs.BoundSizes.{most}
-use Rattle.homeo_plan.proofs.GroundForms.{ground_whole}
 use Rattle.homeo_plan.proofs.GroundNumbers.{values_small, fold_numbers}
 use Rattle.homeo_plan.proofs.SameFolds.{same_folds}
 use Rattle.homeo_split.specs.Key.{definitions as split_definitions}
@@ -36,11 +36,11 @@ use Rattle.homeo_split.specs.Shape.{Shape, shape_of, has_places}
 use Rattle.homeo_split.specs.States.{state_with, state_of, AgreeOnNames}
 use Rattle.homeo_split.specs.declared.split.Split.{Split}
 use Rattle.homeo_split.proofs.Copies.{lengths}
-use Rattle.homeo_delta.specs.Folding.{SumsFit}
+use Rattle.homeo_fold.specs.Folding.{SumsFit}
 use Rattle.homeo_delta.specs.SmallParts.{HasSmallParts}
 use Rattle.homeo_delta.proofs.ShiftedPlaces.{places_law}
 use Rattle.homeo_delta.proofs.SmallShifts.{runs_law, leaves_law}
-use Rattle.homeo_delta.proofs.SmallSums.{sums_law}
+use Rattle.homeo_fold.proofs.SmallFolds.{sums_law}
 use Rattle.homeo_plan_tests.specs.inner.CallExample.{zeros, IsUndivided}
 
 zeros_at : (n x : ℕ) → slice_index_or (replicate n (pos 0)) x (pos 0) ≡ pos 0

@@ -15,7 +15,7 @@ use Rattle.homeo_split.specs.Shape.{Shape, shape_of, has_places}
 use Rattle.homeo_split.specs.States.{state_with, state_of, AgreeOnNames}
 use Rattle.homeo_split.specs.declared.split.Split.{Split}
 use Rattle.homeo_split.proofs.Copies.{lengths}
-use Rattle.homeo_delta.specs.Folding.{SumsFit}
+use Rattle.homeo_fold.specs.Folding.{SumsFit}
 use Rattle.homeo_plan_tests.specs.inner.SplitExample.{raise, raise_own, base, deltas, IsStart}
 
 pub raise-whole : (c : Command) → c ≡ raise → IsWhole c

@@ -7,15 +7,16 @@ ghost use Rattle.homeo_meaning.specs.Declarations.{declarations};
 ghost use Rattle.homeo_meaning.specs.Ground.{plain_ground};
 ghost use Rattle.homeo_meaning.specs.Schema.{schema_of};
 ghost use Rattle.homeo_ground.specs.Grounding.{IsCalled};
-ghost use Rattle.homeo_delta.specs.Folding.{SumsFit};
+ghost use Rattle.homeo_fold.specs.Folding.{SumsFit};
 ghost use Rattle.homeo_plan_tests.specs.inner.CallExample.{IsUndivided};
 
 use crate::same::same_items;
 use crate::texts::{TWICE, accepted};
 use homeo_context::Declarations;
-use homeo_delta::{fold, transform};
+use homeo_delta::transform;
 use homeo_desugar::desugar;
 use homeo_eval::initial;
+use homeo_fold::fold;
 use homeo_ground::Grounding;
 use homeo_meaning::{Accepted, Database, GroundCall};
 use homeo_split::{Split, eval_l};

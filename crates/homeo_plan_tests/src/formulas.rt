@@ -6,7 +6,7 @@ ghost use Rattle.homeo_plan_tests.specs.inner.ObjectExample.{at_most_five};
 
 use crate::object::{base, object_sum};
 use crate::same::{same, same_items};
-use homeo_linear::atoms;
+use homeo_atoms::atoms;
 use homeo_plan::{Delta, Term};
 use homeo_syntax::{Compare, LCond, LExpr, LTest, List};
 use std::alloc::Global;

@@ -4,9 +4,10 @@ ghost use Rattle.std.specs.Prelude.{◌≡◌, ◌<◌, ◌≤◌, ◌^◌, vec_
 ghost use Rattle.std.specs.List.{All};
 
 use crate::same::{same, same_items};
-use homeo_joint::{JointError, joint, joint_of_counts};
+use homeo_joint::{JointError, joint_of_counts};
 use homeo_plan::{JointRow, Row};
 use homeo_syntax::{LCond, List};
+use homeo_whole_tables::joint;
 use std::alloc::Global;
 use std::process::Abort;
 

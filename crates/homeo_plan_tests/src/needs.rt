@@ -6,7 +6,7 @@ ghost use Rattle.homeo_plan_tests.specs.inner.ObjectExample.{printed};
 
 use crate::object::{base, object_sum};
 use crate::same::same_items;
-use homeo_linear::needs;
+use homeo_atoms::needs;
 use homeo_plan::{Delta, Residual};
 use homeo_syntax::{LCommand, List};
 use std::alloc::Global;

@@ -4,6 +4,7 @@ use crate::same::same_items;
 use crate::texts::{WEIGHTED, accepted};
 use homeo_context::Declarations;
 use homeo_ground::{Grounding, number_clients};
+use homeo_meaning::Findings;
 use homeo_syntax::{Call, Client, Ident, List, Number};
 use std::alloc::Global;
 use std::process::Abort;
@@ -81,12 +82,20 @@ fn calls_have_places_in_first_seen_order(rt: HostRuntime) {
 }
 
 #[test]
-fn acceptance_hands_the_places_of_calls_on_once(rt: HostRuntime) {
+fn acceptance_hands_on_what_it_found_once(rt: HostRuntime) {
     let alloc = rt.alloc();
     let mut w = accepted(&rt, alloc, WEIGHTED);
-    let places = w.take_places().expect(&rt, "places");
-    assert!(rt; w.take_places().is_none());
-    match places.as_slice() {
+    let findings = w.take_findings().expect(&rt, "findings");
+    assert!(rt; w.take_findings().is_none());
+    let Findings {
+        calls,
+        forms,
+        places,
+    } = findings;
+    // Both sites call one transaction with the same argument.
+    assert!(rt; forms.as_slice().len() == 1);
+    same_items(&rt, places.as_slice(), [0, 0].as_slice());
+    match calls.as_slice() {
         [first, second] => {
             same_items(&rt, first.as_slice(), [0, 0, 0].as_slice());
             same_items(&rt, second.as_slice(), [1].as_slice());
@@ -94,7 +103,7 @@ fn acceptance_hands_the_places_of_calls_on_once(rt: HostRuntime) {
         _ => panic!(rt; "two clients"),
     }
     let declared = Declarations::of(alloc, &w).expect(&rt, "memory");
-    let grounding = Grounding::with_places(alloc, &w, &declared, places).expect(&rt, "memory");
+    let grounding = Grounding::with_places(alloc, &w, &declared, calls).expect(&rt, "memory");
     match grounding.calls() {
         [first, second] => {
             assert!(rt; first.site == 0 && second.site == 1);

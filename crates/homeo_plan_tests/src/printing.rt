@@ -1,7 +1,7 @@
 //! A text that is read, copied, printed, and read again.
 
 use crate::same::same_items;
-use homeo_print::print;
+use homeo_print_workload::print;
 use homeo_reader::read;
 use homeo_syntax::Workload;
 use std::alloc::Global;

@@ -6,7 +6,8 @@ ghost use Rattle.homeo_plan_tests.specs.inner.SplitExample.{next, raise, IsStart
 
 use crate::object::pair;
 use crate::same::same_items;
-use homeo_delta::{fold, transform};
+use homeo_delta::transform;
+use homeo_fold::fold;
 use homeo_local::local_step;
 use homeo_meaning::Database;
 use homeo_split::{Split, eval_l};

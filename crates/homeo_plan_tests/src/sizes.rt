@@ -1,9 +1,11 @@
 //! Calls that are measured, told by hand from the sizes of their L forms.
 
 ghost use Rattle.std.specs.Prelude.{◌≡◌, ◌≤◌, [], ◌∷◌, pos, length};
+ghost use Rattle.homeo_desugar.specs.SchemaFits.{SchemaFits};
 
 use crate::same::same;
-use homeo_size::{Layout, Measure, TOO_MANY_PRINTS, count_prints, measure};
+use homeo_desugar::form_call;
+use homeo_size::{Layout, Measure, TOO_MANY_PRINTS, count_prints, is_too_large, measure};
 use homeo_syntax::{
     Command, Compare, Cond, Expr, Ident, List, Number, ObjectDecl, RangeDecl, RelationDecl, Test,
     Transaction, Workload,
@@ -137,7 +139,7 @@ fn foreach(rt: &impl Abort, alloc: Global, command: Command) -> Command {
     Command::Foreach {
         row: ROW,
         relation: RELATION,
-        test: always(alloc),
+        test: Box::new(alloc, always(alloc)).expect(rt, "memory"),
         body: alone(rt, alloc, command),
     }
 }
@@ -152,7 +154,18 @@ fn transaction(rt: &impl Abort, alloc: Global, body: List<Command>) -> Transacti
     }
 }
 
-/// What is measured of such commands where the argument is 9, and how many print commands there are.
+/// What is measured of a call's L form where the argument is 9.
+fn measured_form(rt: &impl Abort, alloc: Global, t: &Transaction, layout: &Layout) -> Measure
+    requires { SchemaFits layout.now }
+{
+    let form = form_call(alloc, layout.declared(), t, &[9]).expect(rt, "memory");
+    let measure = measure(alloc, &form, layout, SITES).expect(rt, "memory");
+    drop(form);
+    measure
+}
+
+/// What is measured of such commands where the argument is 9, if their form isn't too large to be made, and how many print
+/// commands there are.
 fn measured(
     rt: &impl Abort,
     alloc: Global,
@@ -166,11 +179,15 @@ fn measured(
     let workload = workload(rt, alloc, relation);
     let layout = Layout::of(alloc, &workload).expect(rt, "memory");
     drop(workload);
-    let transaction = transaction(rt, alloc, body);
-    let args = [number(9)];
-    let measure = measure(alloc, &transaction, &args, &layout, SITES).expect(rt, "memory");
-    let prints = count_prints(&transaction, &layout);
-    drop(transaction);
+    let t = transaction(rt, alloc, body);
+    let prints = count_prints(&t, &layout);
+    let large = is_too_large(alloc, &t, &[number(9)], &layout, SITES).expect(rt, "memory");
+    let measure = if large {
+        None
+    } else {
+        Some(measured_form(rt, alloc, &t, &layout))
+    };
+    drop(t);
     drop(layout);
     (measure, prints)
 }
@@ -224,10 +241,11 @@ fn count(rt: &impl Abort, alloc: Global) -> Expr {
         row: COUNTED,
         field: FIELD,
     };
+    let test = less(rt, alloc, field, Expr::Literal(5));
     Expr::Count {
         row: COUNTED,
         relation: RELATION,
-        test: less(rt, alloc, field, Expr::Literal(5)),
+        test: Box::new(alloc, test).expect(rt, "memory"),
     }
 }
 

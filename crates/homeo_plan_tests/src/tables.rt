@@ -3,7 +3,8 @@
 use crate::same::same;
 use homeo_plan::Row;
 use homeo_syntax::{Compare, LCommand, LCond, LExpr, LTest, List, SplitName, Temp};
-use homeo_table::{Rows, table};
+use homeo_table::Rows;
+use homeo_whole_tables::table;
 use std::alloc::Global;
 use std::process::Abort;
 

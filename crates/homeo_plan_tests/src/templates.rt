@@ -8,11 +8,12 @@ ghost use Rattle.homeo_plan_tests.specs.inner.AtomExample.{AreSmall};
 
 use crate::outlines::outline;
 use crate::same::{same, same_items};
+use homeo_atoms::template;
 use homeo_follow::PlanPart;
 use homeo_outline::{rebased_slacks, whole_template};
 use homeo_plan::{Atom, AtomSet, Clause, Delta, FreezeSet, Linear, Term};
 use homeo_syntax::List;
-use homeo_template::{object_clauses, template};
+use homeo_template::object_clauses;
 use std::alloc::Global;
 use std::process::Abort;
 use std::sync::Arc;

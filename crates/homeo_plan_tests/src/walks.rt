@@ -24,7 +24,8 @@ use homeo_plan::Row;
 use homeo_print::{ObjectNames, print_row};
 use homeo_split::Split;
 use homeo_syntax::{LCommand, Workload};
-use homeo_table::{row_at, table, walk};
+use homeo_table::walk;
+use homeo_whole_tables::{row_at, table};
 use std::alloc::Global;
 use std::process::Abort;
 

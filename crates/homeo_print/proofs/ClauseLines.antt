@@ -25,6 +25,7 @@ use Rattle.homeo_outline.proofs.Slacks.{clauses_more}
 use Rattle.homeo_print.specs.Key.{definitions}
 use Rattle.homeo_print.specs.Names.{numbers_text}
 use Rattle.homeo_print.specs.Plans.{HasBounds}
+use Rattle.homeo_print.specs.Tables.{object_text}
 use Rattle.homeo_print.specs.Treaties.{delta_text, term_text, terms_text, clause_text, clauses_text}
 use Rattle.homeo_print.specs.inner.Clauses.{clause_in, bounds_or, bounds_in, first_clauses, first_or, first_bounds, term_front}
 use Rattle.homeo_print.proofs.TreatySteps.{clauses_push}
@@ -57,6 +58,13 @@ module _ (k : ℕ) (slack : ℤ) (h : pos 0 ≤ℤ slack) where
   bounds_all i le = ap numbers_text (take_all i bounds (subst (λ n. n ≤ i) (sym (even_count k slack h)) le))
 
 -- ---- terms at many sites
+-- objects of one name have one text
+pub same_name : (v w : s.Workload) (x y : ℕ) → object_text v x ≡ object_text w y → (f : ℤ) (i n : ℕ) → terms_text v (terms_from i n x f) ≡ terms_text w (terms_from i n y f)
+unfolding definitions follow_definitions plan_definitions
+same_name v w x y e f i zero = refl
+same_name v w x y e f i (suc n) =
+    ap₂ (λ (name rest : List ℕ). (codes " " ++ signed_decimal f ++ codes "*" ++ (name ++ codes "@" ++ decimal i)) ++ rest) e (same_name v w x y e f (suc i) n)
+
 module _ (w : s.Workload) (k : ℕ) where
   pub site_more : (x : ℕ) (f : ℤ) (i : ℕ) → i < k
       → terms_text w (terms_from i (k - i) x f) ≡ (codes " " ++ signed_decimal f ++ codes "*" ++ delta_text w (record { object = x; site = i })) ++ terms_text w (terms_from (i + 1) (k - (i + 1)) x f)

@@ -15,11 +15,11 @@ use Rattle.homeo_syntax.specs.declared.low.SplitName.{SplitName}
 use Rattle.homeo_syntax.specs.declared.low.SplitName.TheVariants.{Whole, Base, Delta}
 use Rattle.homeo_syntax.specs.declared.low.LExpr.{LExpr}
 use Rattle.homeo_syntax.specs.declared.low.LTest.{LTest}
-use Rattle.homeo_print.specs.declared.phrases.Position.{Position}
-use Rattle.homeo_print.specs.declared.phrases.Position.TheVariants as position
+use Rattle.homeo_print.specs.declared.position.Position.{Position}
+use Rattle.homeo_print.specs.declared.position.Position.TheVariants as position
 use Rattle.homeo_print.specs.Key.{definitions}
 use Rattle.homeo_print.specs.Names.{name_at, object_names}
-use Rattle.homeo_print.specs.TokensOf.{AsTerm, AsFactor}
+use Rattle.homeo_print.specs.Parentheses.{AsTerm, AsFactor}
 use Rattle.homeo_print.specs.Tables.{temp_text, split_name_text, expr_at, sum_text, later_terms, product_text, later_factors, comparison_text, test_text, cond_text, later_tests}
 use Rattle.homeo_print.specs.inner.Walk.{expr_text_in, sign_text}
 use Rattle.homeo_print.proofs.Listed.{flat_more}

@@ -9,7 +9,7 @@ use Rattle.homeo_syntax.specs.LowView.{low_commands, plain_lcommand}
 use Rattle.homeo_syntax.specs.declared.low.Temp.{Temp}
 use Rattle.homeo_syntax.specs.declared.low.SplitName.{SplitName}
 use Rattle.homeo_syntax.specs.declared.low.LCommand.{LCommand}
-use Rattle.homeo_print.specs.declared.phrases.Position.TheVariants as position
+use Rattle.homeo_print.specs.declared.position.Position.TheVariants as position
 use Rattle.homeo_print.specs.Key.{definitions}
 use Rattle.homeo_print.specs.Tables.{temp_text, split_name_text, command_text, later_commands, commands_text, residual_text}
 use Rattle.homeo_print.specs.inner.Walk.{expr_text_in}

@@ -1,14 +1,9 @@
 pub mod Calls
 pub mod Key
-pub mod Layout
 pub mod Names
 pub mod Objects
-pub mod Offsets
+pub mod Parentheses
 pub mod Plans
-pub mod Print
-pub mod Printed
-pub mod ReadingBack
 pub mod Tables
-pub mod TokensOf
 pub mod Treaties
 pub mod inner

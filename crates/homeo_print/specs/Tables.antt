@@ -18,7 +18,7 @@ use Rattle.homeo_plan.specs.Template.{shifted}
 use Rattle.homeo_print.specs.Key.{definitions}
 use Rattle.homeo_print.specs.Names.{newline, heading, name_at, object_names}
 use Rattle.homeo_print.specs.Calls.{ground_text}
-use Rattle.homeo_print.specs.TokensOf.{Level, Alone, AsTerm, AsFactor, around_sum, around_product}
+use Rattle.homeo_print.specs.Parentheses.{Level, Alone, AsTerm, AsFactor, around_sum, around_product}
 
 -- ---- single names
 -- a temporary of the text by its name, one that the text doesn't have by its number

@@ -1,4 +1,3 @@
 pub mod Choices
 pub mod Clauses
-pub mod Pieces
 pub mod Walk

@@ -10,7 +10,7 @@ ghost use Rattle.homeo_print.specs.inner.Walk.{expr_text_in, sign_text};
 use crate::append::{push_byte, push_bytes, push_number, push_signed};
 use crate::calls::name_of;
 use crate::objects::ObjectNames;
-use crate::phrases::Position;
+use crate::position::Position;
 use homeo_syntax::{Compare, Ident, LCond, LExpr, LTest, Memory, SplitName, Temp, Workload};
 
 /// Appends a temporary.

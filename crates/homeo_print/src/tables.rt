@@ -12,7 +12,7 @@ use crate::append::{push_bytes, push_heading, push_number};
 use crate::calls::print_call;
 use crate::formulas::{push_expr, push_split_name, push_temp, push_tests};
 use crate::objects::ObjectNames;
-use crate::phrases::Position;
+use crate::position::Position;
 use homeo_meaning::GroundCall;
 use homeo_syntax::{LCommand, LTest, Memory, Workload};
 

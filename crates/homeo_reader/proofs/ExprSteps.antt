@@ -1,28 +1,65 @@
 -- What is read, step by step.
 use Rattle.std.proofs.Common.{◌≡◌, ℕ, zero, suc, ◌-◌, ◌<◌, List, [], ◌∷◌, refl, ap, ◌∙◌, sym, arith}
-use Rattle.std.specs.Prelude.{Ok, Err, nat_lt, if◌then◌else◌}
+use Rattle.std.specs.Prelude.{Option, Some, None, Ok, Err, nat_lt, if◌then◌else◌}
 use Rattle.homeo_syntax.specs.declared.token.Mark.TheVariants as mark
 use Rattle.homeo_syntax.specs.declared.token.Kind.{Kind}
 use Rattle.homeo_syntax.specs.declared.token.Kind.TheVariants as kind
 use Rattle.homeo_syntax.specs.declared.token.Token.{Token}
 use Rattle.homeo_reader.specs.inner.Engine.{Reading, ◌>>=◌, read, calls_at}
-use Rattle.homeo_syntax.specs.Rules.{rule, factor, test}
+use Rattle.homeo_syntax.specs.Grammar.{alt}
+use Rattle.homeo_syntax.specs.Rules.{rule, factor, test, product_of, sum_of}
 use Rattle.homeo_syntax.specs.declared.phrase.Ident.{Ident}
-use Rattle.homeo_reader.specs.inner.Reading.{factor_read, factors_read, term_read, terms_read, expr_read, visit_read, visit_do, field_rest, after_name_read, after_name_by, after_name_do, count_rest, total_rest, factor_by, factor_do, term_do, expr_do}
+use Rattle.homeo_reader.specs.inner.Reading.{factor_read, factors_read, term_read, terms_read, expr_read, visit_read, visit_do, field_rest, after_name_read, after_name_by, after_name_do, count_rest, total_rest, factor_by, factor_do, next_factor_read, after_factor, term_do, next_term_read, after_term, expr_do, with_front}
 use Rattle.homeo_syntax.specs.Source as s
+use Rattle.homeo_syntax.specs.SourceView.{exprs}
 use Rattle.homeo_reader.specs.inner.Reading.{ident_read, mark_read, cond_read, cond_do, test_read, tests_read, test_do, comparison_read, comparison_do}
 use Rattle.std.proofs.lemmas.Bool.{lt-ltb}
 use Rattle.homeo_syntax.specs.declared.phrase.Compare.{Compare}
 use Rattle.homeo_reader.proofs.Bools.{if_true}
+use Rattle.homeo_reader.proofs.Lists.{star_factor, plus_term, minus_term, no_more, one_more, none_stuck}
 use Rattle.homeo_reader.proofs.Flat.{read_then, reads, reads_part, flat_part, bind_same}
 
+more_factors : (first second : s.Expr) (r : Reading (List s.Expr)) → (with_front (second ∷ []) r >>= λ y. Ok (product_of first y.0, y.1)) ≡ (with_front (first ∷ second ∷ []) r >>= λ x. Ok (s.Product (exprs x.0), x.1))
+more_factors first second (Ok x) = refl
+more_factors first second (Err e) = refl
+
+factors_do : (room : ℕ) (first : s.Expr) (ts : List Token) → (factors_read room ts >>= λ y. Ok (product_of first y.0, y.1)) ≡ (next_factor_read room ts >>= λ y. after_factor room first y.0 y.1)
+unfolding factors_read next_factor_read after_factor
+factors_do room first ts = go (next_factor_read room ts) refl
+  where
+    go : (r : Reading (Option s.Expr)) → next_factor_read room ts ≡ r → (factors_read room ts >>= λ y. Ok (product_of first y.0, y.1)) ≡ (r >>= λ y. after_factor room first y.0 y.1)
+    go (Ok (None, rest)) e = ap (λ r. r >>= λ y. Ok (product_of first y.0, y.1)) (no_more room star_factor refl ts rest e)
+    go (Ok (Some second, rest)) e = ap (λ r. r >>= λ y. Ok (product_of first y.0, y.1)) (one_more room star_factor refl ts rest second e) ∙ more_factors first second (factors_read room rest)
+    go (Err rest) e = ap (λ r. r >>= λ y. Ok (product_of first y.0, y.1)) (none_stuck room star_factor refl ts rest e)
+
+term_parts : (room : ℕ) (ts : List Token) → term_read room ts ≡ (factor_read room ts >>= λ x. factors_read room x.1 >>= λ y. Ok (product_of x.0 y.0, y.1))
+unfolding term_read factor_read factors_read read_then
+term_parts room ts = reads_part (calls_at rule room) _ ts
+
 pub term_reads : (room : ℕ) (ts : List Token) → term_read room ts ≡ term_do room ts
-unfolding term_read term_do factor_read factors_read read_then
-term_reads room ts = reads_part (calls_at rule room) _ ts
+unfolding term_do
+term_reads room ts = term_parts room ts ∙ bind_same (factor_read room ts) _ _ (λ x. factors_do room x.0 x.1)
+
+more_terms : (first second : s.Expr) (r : Reading (List s.Expr)) → (with_front (second ∷ []) r >>= λ y. Ok (sum_of first y.0, y.1)) ≡ (with_front (first ∷ second ∷ []) r >>= λ x. Ok (s.Sum (exprs x.0), x.1))
+more_terms first second (Ok x) = refl
+more_terms first second (Err e) = refl
+
+terms_do : (room : ℕ) (first : s.Expr) (ts : List Token) → (terms_read room ts >>= λ y. Ok (sum_of first y.0, y.1)) ≡ (next_term_read room ts >>= λ y. after_term room first y.0 y.1)
+unfolding terms_read next_term_read after_term
+terms_do room first ts = go (next_term_read room ts) refl
+  where
+    go : (r : Reading (Option s.Expr)) → next_term_read room ts ≡ r → (terms_read room ts >>= λ y. Ok (sum_of first y.0, y.1)) ≡ (r >>= λ y. after_term room first y.0 y.1)
+    go (Ok (None, rest)) e = ap (λ r. r >>= λ y. Ok (sum_of first y.0, y.1)) (no_more room (alt plus_term minus_term) refl ts rest e)
+    go (Ok (Some second, rest)) e = ap (λ r. r >>= λ y. Ok (sum_of first y.0, y.1)) (one_more room (alt plus_term minus_term) refl ts rest second e) ∙ more_terms first second (terms_read room rest)
+    go (Err rest) e = ap (λ r. r >>= λ y. Ok (sum_of first y.0, y.1)) (none_stuck room (alt plus_term minus_term) refl ts rest e)
+
+expr_parts : (room : ℕ) (ts : List Token) → expr_read room ts ≡ (term_read room ts >>= λ x. terms_read room x.1 >>= λ y. Ok (sum_of x.0 y.0, y.1))
+unfolding expr_read term_read terms_read read_then
+expr_parts room ts = reads_part (calls_at rule room) _ ts
 
 pub expr_reads : (room : ℕ) (ts : List Token) → expr_read room ts ≡ expr_do room ts
-unfolding expr_read expr_do term_read terms_read read_then
-expr_reads room ts = reads_part (calls_at rule room) _ ts
+unfolding expr_do
+expr_reads room ts = expr_parts room ts ∙ bind_same (term_read room ts) _ _ (λ x. terms_do room x.0 x.1)
 
 pub visit_reads : (room : ℕ) (ts : List Token) → visit_read room ts ≡ visit_do room ts
 unfolding visit_read visit_do cond_read read_then

@@ -1,6 +1,6 @@
 -- Phrases after a mark, any number of times.
 use Rattle.std.proofs.Common.{◌≡◌, ℕ, zero, suc, ◌<◌, ◌≤◌, Bool, true, false, ◌||◌, ◌&&◌, List, [], ◌∷◌, ◌++◌, length, refl, ap, ◌∙◌, sym, subst, arith, append_assoc, not, true≢false}
-use Rattle.std.specs.Prelude.{Option, Some, None, option_map, Ok, Err, if◌then◌else◌, ◌==◌}
+use Rattle.std.specs.Prelude.{Option, Some, None, option_map, Ok, Err, if◌then◌else◌}
 use Rattle.homeo_syntax.specs.declared.token.Mark.{Mark}
 use Rattle.homeo_syntax.specs.declared.token.Kind.{Kind}
 use Rattle.homeo_syntax.specs.declared.token.Kind.TheVariants as kind
@@ -8,15 +8,12 @@ use Rattle.homeo_syntax.specs.declared.token.Token.{Token}
 use Rattle.homeo_syntax.specs.Classes.{number_of}
 use Rattle.homeo_syntax.specs.Grammar.{many, alt, call, as_value, takes, Spells, Means}
 use Rattle.homeo_reader.specs.inner.Engine.{Reading, ◌>>=◌, Calls, calls_at, empty, exists, begins, first_is, read, decides}
-use Rattle.homeo_syntax.specs.Rules.{Deep, Factor, Test, Tree, Rule, rule, lead, term, product_of, sum_of}
+use Rattle.homeo_syntax.specs.Rules.{Deep, Factor, Test, Tree, Rule, rule, lead, term}
 use Rattle.homeo_reader.specs.inner.FirstTokens.{classes}
 use Rattle.homeo_syntax.specs.declared.token.Mark.TheVariants as mark
 use Rattle.homeo_syntax.specs.Source as s
-use Rattle.homeo_syntax.specs.SourceView.{exprs}
 use Rattle.homeo_reader.specs.declared.parser.Fault.{Fault}
 use Rattle.homeo_reader.specs.declared.parser.Fault.TheVariants as fault
-use Rattle.homeo_syntax.specs.declared.phrase.Expr.{Expr}
-use Rattle.homeo_reader.specs.inner.Reading.{expr_views}
 use Rattle.homeo_reader.specs.inner.Reading.{opt_of, opt_read, on_marked, if_marked, next_factor_read, next_factor_do, next_term_read, next_term_do, test_read, next_test_read, next_test_do, Gives, mark_read, offset_read, with_front, factor_read, term_read}
 use Rattle.homeo_reader.proofs.Bools.{if_true, if_false, not_both}
 use Rattle.homeo_reader.proofs.Words.{Outcome, Takes, begun_exists, empty_word}
@@ -191,6 +188,22 @@ module _ (n : ℕ) {X : Type 0} (g : Rule X) (d : decides classes (many g) ≡ t
       (empty_word classes (calls_at rule n) (Means rule n) known g a (subst (Spells (Means rule n) g a) z t.is)) in
       omega (arith, longer t.word r ts ne t.cut)
 
+no_front : {A : Type 0} → (r : Reading (List A)) → with_front [] r ≡ r
+no_front (Ok x) = refl
+no_front (Err e) = refl
+
+-- A repetition by what comes first of it.
+module _ (n : ℕ) {X : Type 0} (g : Rule X) (d : decides classes (many g) ≡ true) where
+  pub no_more : (ts r : List Token) → opt_read (calls_at rule n) g ts ≡ Ok (None, r) → read (calls_at rule n) (many g) ts ≡ Ok ([], r)
+  no_more ts r e = sym (no_front (read (calls_at rule n) (many g) ts)) ∙ step_none n g d [] ts r e
+
+  pub one_more : (ts r : List Token) (a : X) → opt_read (calls_at rule n) g ts ≡ Ok (Some a, r) →
+      read (calls_at rule n) (many g) ts ≡ with_front (a ∷ []) (read (calls_at rule n) (many g) r)
+  one_more ts r a e = sym (no_front (read (calls_at rule n) (many g) ts)) ∙ step_some n g d [] ts r a e
+
+  pub none_stuck : (ts e : List Token) → opt_read (calls_at rule n) g ts ≡ Err e → read (calls_at rule n) (many g) ts ≡ Err e
+  none_stuck ts e h = sym (no_front (read (calls_at rule n) (many g) ts)) ∙ step_err n g d [] ts e h
+
 -- after a mark, one more
 pub opt_lead : (cs : Calls Deep Tree) {X : Type 0} (m : Mark) (g : Rule X) → exists cs g ≡ true → (ts : List Token) →
     opt_read cs (lead m g) ts ≡ if_marked m ts (λ r. read cs g r >>= λ x. Ok (Some x.0, x.1)) (Ok (None, ts))
@@ -275,17 +288,6 @@ next_term_reads room ts h = go (mark_read mark.Plus ts) refl
         ∙ alt_false (first_is (begins (calls_at rule room) plus_term) ts) _ (exists (calls_at rule room) minus_term) (read (calls_at rule room) plus_term ts)
         (read (calls_at rule room) minus_term ts) ts (exists_term room h) (lead_not (calls_at rule room) mark.Plus term (exists_term room h) ts x e)
         ∙ next_minus room ts h
-
-pub product_of-more : (e : s.Expr) (es : List Expr) → (length es ≡ 0 → ⊥) → s.Product (exprs (e ∷ expr_views es)) ≡ product_of e (expr_views es)
-product_of-more e [] h = absurd (h refl)
-product_of-more e (f ∷ es) h = refl
-
-pub sum_of-more : (e : s.Expr) (es : List Expr) → (length es ≡ 0 → ⊥) → s.Sum (exprs (e ∷ expr_views es)) ≡ sum_of e (expr_views es)
-sum_of-more e [] h = absurd (h refl)
-sum_of-more e (f ∷ es) h = refl
-
-pub not_empty : {A : Type 0} → (n : ℕ) (items : List A) → n ≡ length items → false ≡ (n == 0) → length items ≡ 0 → ⊥
-not_empty n items e h z = let t = eq-eqb n 0 (omega arith) in true≢false (sym t ∙ sym h)
 
 abbrev pub star_factor : Rule s.Expr
 star_factor = lead mark.Star (call Factor)

@@ -8,7 +8,7 @@ use Rattle.homeo_syntax.specs.declared.token.Token.{Token}
 use Rattle.homeo_syntax.specs.declared.token.Version.{Version}
 use Rattle.homeo_syntax.specs.declared.workload.Refusal.{Refusal}
 use Rattle.homeo_syntax.specs.Source as s
-use Rattle.homeo_syntax.specs.Tokens.{is_good, IsClean, Scanned, version_of, in_version, scanned_of, names_of, tokens_in}
+use Rattle.homeo_syntax.specs.Tokens.{is_good, IsClean, Scanned, version_of, in_version, unversioned, scanned_of, names_of, tokens_in}
 use Rattle.homeo_syntax.specs.Rules.{IsWorkload}
 use Rattle.homeo_syntax.specs.Reads.{Reads, IsUnread, offset_at}
 use Rattle.homeo_syntax.specs.WellFormed.{IsWellFormed}
@@ -16,9 +16,8 @@ use Rattle.homeo_syntax.specs.declared.workload.Workload.{Workload}
 use Rattle.homeo_syntax.specs.SourceView.{plain_workload}
 use Rattle.homeo_syntax.specs.Grammar.{IsFault}
 use Rattle.homeo_tokens.specs.declared.numbering.Numbered.{Numbered}
-use Rattle.homeo_tokens.specs.declared.scanner.ScanError.{ScanError}
-use Rattle.homeo_tokens.specs.declared.scanner.ScanError.TheVariants as scan
-use Rattle.homeo_tokens.specs.Scans.{IsScanned, Stops}
+use Rattle.homeo_tokens.specs.Scans.{IsScanned}
+use Rattle.homeo_tokens.proofs.Clean.{clean}
 use Rattle.homeo_reader.specs.declared.parser.Fault.{Fault}
 use Rattle.homeo_reader.specs.declared.parser.Fault.TheVariants as fault
 use Rattle.homeo_reader.specs.declared.reader.ReadRefusal.{ReadRefusal}
@@ -118,11 +117,11 @@ pub fault_refused : (v : Version) (names : List (List ℕ)) (ts rest : List Toke
 fault_refused v names ts rest end offset fault.Memory x g m k o = subst (λ (x : ReadRefusal). ParsesExactly v names ts end (Err x)) (sym (m refl)) tt
 fault_refused v names ts rest end offset fault.Stuck x g m k o = refused_at v names ts rest end offset x (k refl) o (at_fault v names ts rest g)
 
-pub no_token : (text : List ℕ) (offset : ℕ) (x : ReadRefusal) (e : ScanError) → x ≡ Refused (record { code = 3; offset = offset }) → Stops text e →
-    e ≡ scan.At offset → position (λ b. not (is_good b)) text ≡ None → ReadsExactly text (Err x)
-no_token text offset x e h stops is clean =
+pub no_token : (text : List ℕ) (offset : ℕ) (x : ReadRefusal) → x ≡ Refused (record { code = 3; offset = offset }) → unversioned text ≡ Err offset →
+    position (λ b. not (is_good b)) text ≡ None → ReadsExactly text (Err x)
+no_token text offset x h stops clean =
     subst (λ (x : ReadRefusal). ReadsExactly text (Err x)) (sym h)
-    (inr (inl (record { code = refl; clean = clean_text text clean; at = ap (result_map_both in_version (λ at. at)) (subst (Stops text) is stops) })))
+    (inr (inl (record { code = refl; clean = clean_text text clean; at = ap (result_map_both in_version (λ at. at)) stops })))
 
 parsed_with : (text : List ℕ) (scanned : List Scanned) (x : Result Workload ReadRefusal) → IsClean text → scanned_of text ≡ Ok scanned →
     ParsesExactly (version_of scanned) (names_of scanned) (tokens_in (names_of scanned) scanned) (length text) x → ReadsExactly text x
@@ -139,10 +138,10 @@ parsed_with text scanned (Err (Refused r)) clean e p =
       at = ap (λ (r : Refusal). r.offset) p.2;
     }))
 
-pub parsed : (text : List ℕ) (n : Numbered) (tokens : List Token) (x : Result Workload ReadRefusal) → position (λ b. not (is_good b)) text ≡ None → IsScanned text n → tokens ≡ n.tokens.items →
+pub parsed : (text : List ℕ) (n : Numbered) (tokens : List Token) (x : Result Workload ReadRefusal) → IsScanned text n → tokens ≡ n.tokens.items →
     ParsesExactly n.version n.names.items tokens (length text) x → ReadsExactly text x
-parsed text n tokens x clean is t p =
-    parsed_with text is.scanned x (clean_text text clean) is.lexemes
+parsed text n tokens x is t p =
+    parsed_with text is.scanned x (clean text is.scanned is.lexemes) is.lexemes
     (subst (λ (ts : List Token). ParsesExactly (version_of is.scanned) (names_of is.scanned) ts (length text) x) (t ∙ is.tokens)
     (subst (λ (l : List (List ℕ)). ParsesExactly (version_of is.scanned) l tokens (length text) x) is.names
     (subst (λ (v : Version). ParsesExactly v n.names.items tokens (length text) x) is.version p)))

@@ -63,6 +63,8 @@ impl<'a> Parser<'a> {
         let field = self.name()?;
         self.expect(Mark::Assign)?;
         let value = self.expr(alloc, room)?;
+        let index = Box::new(alloc, index)?;
+        let value = Box::new(alloc, value)?;
         Ok(Command::SetField {
             relation,
             index,
@@ -85,6 +87,7 @@ impl<'a> Parser<'a> {
         let field = self.name()?;
         self.expect(Mark::Assign)?;
         let value = self.expr(alloc, room)?;
+        let value = Box::new(alloc, value)?;
         Ok(Command::SetRow { row, field, value })
     }
 
@@ -187,6 +190,8 @@ impl<'a> Parser<'a> {
         } = self.visit(alloc, room)?;
         self.expect(Mark::Set)?;
         let FieldValue { field, value } = self.field_value(alloc, room)?;
+        let test = Box::new(alloc, test)?;
+        let value = Box::new(alloc, value)?;
         Ok(Command::Update {
             row: name,
             relation,

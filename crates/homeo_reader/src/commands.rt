@@ -32,60 +32,60 @@ impl<'a> Parser<'a> {
         requires { 0 < room }
         ensures { Gives plain_command result self.new.rest.now (command_read version room self.old.rest.now) }
     {
-        match self.rest.split_first() {
-            Some((t, rest)) => match t.kind {
-                Kind::Fixed(Mark::Skip) => {
-                    self.rest = rest;
-                    Ok(Command::Skip)
-                }
-                Kind::Fixed(Mark::Abort) => self.abort(version),
-                Kind::Fixed(Mark::OpenBrace) => {
-                    let commands = self.block(alloc, version, room - 1)?;
-                    Ok(Command::Block { commands })
-                }
-                Kind::Name(_) if room > 1 => {
-                    let name = self.name()?;
-                    self.setting(alloc, name, room - 1)
-                }
-                Kind::Fixed(Mark::Write) if room > 1 => {
-                    self.rest = rest;
-                    self.expect(Mark::Open)?;
-                    let object = self.name()?;
-                    self.expect(Mark::Equal)?;
-                    let value = self.expr(alloc, room - 1)?;
-                    self.expect(Mark::Close)?;
-                    Ok(Command::Write { object, value })
-                }
-                Kind::Fixed(Mark::Print) if room > 1 => {
-                    self.rest = rest;
-                    self.expect(Mark::Open)?;
-                    let value = self.expr(alloc, room - 1)?;
-                    self.expect(Mark::Close)?;
-                    Ok(Command::Print { value })
-                }
-                Kind::Fixed(Mark::If) if room > 1 => {
-                    self.rest = rest;
-                    self.choice_after_if(alloc, version, room - 1)
-                }
-                Kind::Fixed(Mark::Foreach) if room > 1 => {
-                    self.rest = rest;
-                    self.body_after_foreach(alloc, version, room - 1)
-                }
-                Kind::Fixed(Mark::Insert) if room > 1 => {
-                    self.rest = rest;
-                    self.insert_after_word(alloc, room - 1)
-                }
-                Kind::Fixed(Mark::Delete) if room > 1 => {
-                    self.rest = rest;
-                    self.delete_after_word(alloc, room - 1)
-                }
-                Kind::Fixed(Mark::Update) if room > 1 => {
-                    self.rest = rest;
-                    self.update_after_word(alloc, room - 1)
-                }
-                _ => Err(Fault::Stuck),
-            },
-            None => Err(Fault::Stuck),
+        let Some((t, rest)) = self.rest.split_first() else {
+            return Err(Fault::Stuck);
+        };
+        match t.kind {
+            Kind::Fixed(Mark::Skip) => {
+                self.rest = rest;
+                Ok(Command::Skip)
+            }
+            Kind::Fixed(Mark::Abort) => self.abort(version),
+            Kind::Fixed(Mark::OpenBrace) => {
+                let commands = self.block(alloc, version, room - 1)?;
+                Ok(Command::Block { commands })
+            }
+            Kind::Name(_) if room > 1 => {
+                let name = self.name()?;
+                self.setting(alloc, name, room - 1)
+            }
+            Kind::Fixed(Mark::Write) if room > 1 => {
+                self.rest = rest;
+                self.expect(Mark::Open)?;
+                let object = self.name()?;
+                self.expect(Mark::Equal)?;
+                let value = self.expr(alloc, room - 1)?;
+                self.expect(Mark::Close)?;
+                Ok(Command::Write { object, value })
+            }
+            Kind::Fixed(Mark::Print) if room > 1 => {
+                self.rest = rest;
+                self.expect(Mark::Open)?;
+                let value = self.expr(alloc, room - 1)?;
+                self.expect(Mark::Close)?;
+                Ok(Command::Print { value })
+            }
+            Kind::Fixed(Mark::If) if room > 1 => {
+                self.rest = rest;
+                self.choice_after_if(alloc, version, room - 1)
+            }
+            Kind::Fixed(Mark::Foreach) if room > 1 => {
+                self.rest = rest;
+                self.body_after_foreach(alloc, version, room - 1)
+            }
+            Kind::Fixed(Mark::Insert) if room > 1 => {
+                self.rest = rest;
+                self.insert_after_word(alloc, room - 1)
+            }
+            Kind::Fixed(Mark::Delete) if room > 1 => {
+                self.rest = rest;
+                self.delete_after_word(alloc, room - 1)
+            }
+            Kind::Fixed(Mark::Update) if room > 1 => {
+                self.rest = rest;
+                self.update_after_word(alloc, room - 1)
+            }
+            _ => Err(Fault::Stuck),
         }
     }
 
@@ -142,6 +142,7 @@ impl<'a> Parser<'a> {
             test,
         } = self.visit(alloc, room)?;
         let body = self.block(alloc, version, room)?;
+        let test = Box::new(alloc, test)?;
         Ok(Command::Foreach {
             row: name,
             relation,

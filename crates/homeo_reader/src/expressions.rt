@@ -1,14 +1,13 @@
 //! Expressions. A room says how much deeper phrases may go.
 
-ghost use Rattle.std.specs.Prelude.{◌≡◌, ◌<◌, option_map, IfOk, IfErr};
+ghost use Rattle.std.specs.Prelude.{◌≡◌, ◌<◌, [], ◌∷◌, option_map, IfOk, IfErr};
 ghost use Rattle.homeo_syntax.specs.Source as s;
 ghost use Rattle.homeo_syntax.specs.SourceView.{plain_expr};
-ghost use Rattle.homeo_syntax.specs.Rules.{product_of, sum_of};
-ghost use Rattle.homeo_reader.specs.inner.Reading.{Gives, expr_views, field_rest, after_name_read, count_rest, total_rest, factor_read, next_factor_read, factors_read, term_read, next_term_read, terms_read, expr_read};
+ghost use Rattle.homeo_reader.specs.inner.Reading.{Gives, with_front, expr_views, field_rest, after_name_read, count_rest, total_rest, factor_read, next_factor_read, factors_read, term_read, next_term_read, terms_read, expr_read};
 
 use crate::conditions::Visit;
-use crate::parser::{Fault, Parser, append, list_of};
-use homeo_syntax::{Expr, Ident, Kind, Mark};
+use crate::parser::{Fault, Parser, pair};
+use homeo_syntax::{Expr, Ident, Kind, List, Mark};
 use std::alloc::Global;
 
 impl<'a> Parser<'a> {
@@ -19,45 +18,45 @@ impl<'a> Parser<'a> {
         requires { 0 < room }
         ensures { Gives plain_expr result self.new.rest.now (factor_read room self.old.rest.now) }
     {
-        match self.rest.split_first() {
-            Some((t, rest)) => match t.kind {
-                Kind::Number(value) => {
-                    self.rest = rest;
-                    Ok(Expr::Literal(value))
-                }
-                Kind::Name(_) => {
-                    let name = self.name()?;
-                    self.after_name(alloc, name, room - 1)
-                }
-                Kind::Fixed(Mark::Read) => {
-                    self.rest = rest;
-                    self.expect(Mark::Open)?;
-                    let name = self.name()?;
-                    self.expect(Mark::Close)?;
-                    Ok(Expr::Read(name))
-                }
-                Kind::Fixed(Mark::Minus) if room > 1 => {
-                    self.rest = rest;
-                    let inner = self.factor(alloc, room - 1)?;
-                    negated(alloc, inner)
-                }
-                Kind::Fixed(Mark::Open) if room > 1 => {
-                    self.rest = rest;
-                    let inner = self.expr(alloc, room - 1)?;
-                    self.expect(Mark::Close)?;
-                    Ok(inner)
-                }
-                Kind::Fixed(Mark::Count) if room > 1 => {
-                    self.rest = rest;
-                    self.count_after_word(alloc, room - 1)
-                }
-                Kind::Fixed(Mark::Sum) if room > 1 => {
-                    self.rest = rest;
-                    self.total_after_word(alloc, room - 1)
-                }
-                _ => Err(Fault::Stuck),
-            },
-            None => Err(Fault::Stuck),
+        let Some((t, rest)) = self.rest.split_first() else {
+            return Err(Fault::Stuck);
+        };
+        match t.kind {
+            Kind::Number(value) => {
+                self.rest = rest;
+                Ok(Expr::Literal(value))
+            }
+            Kind::Name(_) => {
+                let name = self.name()?;
+                self.after_name(alloc, name, room - 1)
+            }
+            Kind::Fixed(Mark::Read) => {
+                self.rest = rest;
+                self.expect(Mark::Open)?;
+                let name = self.name()?;
+                self.expect(Mark::Close)?;
+                Ok(Expr::Read(name))
+            }
+            Kind::Fixed(Mark::Minus) if room > 1 => {
+                self.rest = rest;
+                let inner = self.factor(alloc, room - 1)?;
+                negated(alloc, inner)
+            }
+            Kind::Fixed(Mark::Open) if room > 1 => {
+                self.rest = rest;
+                let inner = self.expr(alloc, room - 1)?;
+                self.expect(Mark::Close)?;
+                Ok(inner)
+            }
+            Kind::Fixed(Mark::Count) if room > 1 => {
+                self.rest = rest;
+                self.count_after_word(alloc, room - 1)
+            }
+            Kind::Fixed(Mark::Sum) if room > 1 => {
+                self.rest = rest;
+                self.total_after_word(alloc, room - 1)
+            }
+            _ => Err(Fault::Stuck),
         }
     }
 
@@ -67,20 +66,20 @@ impl<'a> Parser<'a> {
     fn after_name(&mut self, alloc: Global, name: Ident, room: u32) -> Result<Expr, Fault>
         ensures { Gives plain_expr result self.new.rest.now (after_name_read room name self.old.rest.now) }
     {
-        match self.rest.split_first() {
-            Some((t, rest)) => match t.kind {
-                Kind::Fixed(Mark::OpenBracket) if room > 0 => {
-                    self.rest = rest;
-                    self.field_after_bracket(alloc, name, room)
-                }
-                Kind::Fixed(Mark::Dot) => {
-                    self.rest = rest;
-                    let field = self.name()?;
-                    Ok(Expr::Row { row: name, field })
-                }
-                _ => Ok(Expr::Name(name)),
-            },
-            None => Ok(Expr::Name(name)),
+        let Some((t, rest)) = self.rest.split_first() else {
+            return Ok(Expr::Name(name));
+        };
+        match t.kind {
+            Kind::Fixed(Mark::OpenBracket) if room > 0 => {
+                self.rest = rest;
+                self.field_after_bracket(alloc, name, room)
+            }
+            Kind::Fixed(Mark::Dot) => {
+                self.rest = rest;
+                let field = self.name()?;
+                Ok(Expr::Row { row: name, field })
+            }
+            _ => Ok(Expr::Name(name)),
         }
     }
 
@@ -117,6 +116,7 @@ impl<'a> Parser<'a> {
             test,
         } = self.visit(alloc, room)?;
         self.expect(Mark::Close)?;
+        let test = Box::new(alloc, test)?;
         Ok(Expr::Count {
             row: name,
             relation,
@@ -140,6 +140,7 @@ impl<'a> Parser<'a> {
             test,
         } = self.visit(alloc, room)?;
         self.expect(Mark::Close)?;
+        let test = Box::new(alloc, test)?;
         Ok(Expr::Total {
             row,
             field: name,
@@ -163,29 +164,41 @@ impl<'a> Parser<'a> {
         }
     }
 
-    /// The factors that go on with a product.
+    /// These factors, and those that go on with the product.
     #[cycle(expr)]
-    fn factors(&mut self, alloc: Global, room: u32) -> Result<Vec<Expr>, Fault>
+    fn factors(
+        &mut self,
+        alloc: Global,
+        room: u32,
+        first: Expr,
+        second: Expr,
+    ) -> Result<List<Expr>, Fault>
         requires { 0 < room }
-        ensures { Gives (λ v. expr_views v.items) result self.new.rest.now (factors_read room self.old.rest.now) }
+        ensures { Gives (λ l. expr_views l.items) result self.new.rest.now (with_front (plain_expr first ∷ plain_expr second ∷ []) (factors_read room self.old.rest.now)) }
     {
-        let mut items = Vec::new(alloc);
+        let mut items = pair(alloc, first, second)?;
         'more: while let Some(item) = self.next_factor(alloc, room)? {
-            append(&mut items, item)?;
+            items.push(item)?;
         }
-        Ok(items)
+        items.shrink_to_fit();
+        Ok(List::from_vec(items))
     }
 
     /// Takes a product of one factor or more.
     #[cycle(expr)]
-    #[tactic(auto, using(crate::proofs::ExprSteps::term_reads), unfolding(crate::specs::inner::Reading::term_do))]
+    #[tactic(auto, using(crate::proofs::ExprSteps::term_reads, homeo_syntax::proofs::SourceViews::phrase_views), unfolding(crate::specs::inner::Reading::term_do, crate::specs::inner::Reading::after_factor))]
     fn term(&mut self, alloc: Global, room: u32) -> Result<Expr, Fault>
         requires { 0 < room }
         ensures { Gives plain_expr result self.new.rest.now (term_read room self.old.rest.now) }
     {
         let first = self.factor(alloc, room)?;
-        let others = self.factors(alloc, room)?;
-        product(first, others)
+        match self.next_factor(alloc, room)? {
+            Some(second) => {
+                let factors = self.factors(alloc, room, first, second)?;
+                Ok(Expr::Product(factors))
+            }
+            None => Ok(first),
+        }
     }
 
     /// A term after a sign, if one comes next.
@@ -206,54 +219,42 @@ impl<'a> Parser<'a> {
         }
     }
 
-    /// The terms that go on with a sum.
+    /// These terms, and those that go on with the sum.
     #[cycle(expr)]
-    fn terms(&mut self, alloc: Global, room: u32) -> Result<Vec<Expr>, Fault>
+    fn terms(
+        &mut self,
+        alloc: Global,
+        room: u32,
+        first: Expr,
+        second: Expr,
+    ) -> Result<List<Expr>, Fault>
         requires { 0 < room }
-        ensures { Gives (λ v. expr_views v.items) result self.new.rest.now (terms_read room self.old.rest.now) }
+        ensures { Gives (λ l. expr_views l.items) result self.new.rest.now (with_front (plain_expr first ∷ plain_expr second ∷ []) (terms_read room self.old.rest.now)) }
     {
-        let mut items = Vec::new(alloc);
+        let mut items = pair(alloc, first, second)?;
         'more: while let Some(item) = self.next_term(alloc, room)? {
-            append(&mut items, item)?;
+            items.push(item)?;
         }
-        Ok(items)
+        items.shrink_to_fit();
+        Ok(List::from_vec(items))
     }
 
     /// Takes an expression, which is a sum of one term or more.
     #[cycle(expr)]
-    #[tactic(auto, using(crate::proofs::ExprSteps::expr_reads), unfolding(crate::specs::inner::Reading::expr_do))]
+    #[tactic(auto, using(crate::proofs::ExprSteps::expr_reads, homeo_syntax::proofs::SourceViews::phrase_views), unfolding(crate::specs::inner::Reading::expr_do, crate::specs::inner::Reading::after_term))]
     pub(crate) fn expr(&mut self, alloc: Global, room: u32) -> Result<Expr, Fault>
         requires { 0 < room }
         ensures { Gives plain_expr result self.new.rest.now (expr_read room self.old.rest.now) }
     {
         let first = self.term(alloc, room)?;
-        let others = self.terms(alloc, room)?;
-        sum(first, others)
+        match self.next_term(alloc, room)? {
+            Some(second) => {
+                let terms = self.terms(alloc, room, first, second)?;
+                Ok(Expr::Sum(terms))
+            }
+            None => Ok(first),
+        }
     }
-}
-
-/// The product of these factors, which is the first where there is one.
-fn product(first: Expr, others: Vec<Expr>) -> Result<Expr, Fault>
-    ensures ok { IfOk result (λ e. plain_expr e ≡ product_of (plain_expr first) (expr_views others.items)) }
-    ensures memory { IfErr result (λ e. e ≡ Fault.Memory) }
-{
-    if others.is_empty() {
-        return Ok(first);
-    }
-    let factors = list_of(first, others)?;
-    Ok(Expr::Product(factors))
-}
-
-/// The sum of these terms, which is the first where there is one.
-fn sum(first: Expr, others: Vec<Expr>) -> Result<Expr, Fault>
-    ensures ok { IfOk result (λ e. plain_expr e ≡ sum_of (plain_expr first) (expr_views others.items)) }
-    ensures memory { IfErr result (λ e. e ≡ Fault.Memory) }
-{
-    if others.is_empty() {
-        return Ok(first);
-    }
-    let terms = list_of(first, others)?;
-    Ok(Expr::Sum(terms))
 }
 
 /// The negation of an expression.

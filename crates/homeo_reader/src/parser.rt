@@ -4,7 +4,7 @@ ghost use Rattle.std.specs.Prelude.{◌≡◌, [], ◌∷◌, ◌++◌, IfOk, If
 ghost use Rattle.homeo_reader.specs.inner.Reading.{Gives, TakesMark, ident_read, mark_read, same};
 
 use homeo_syntax::{Ident, Kind, List, Mark, Memory, Token};
-use std::alloc::{AllocError, AllocFailed};
+use std::alloc::{AllocError, AllocFailed, Global};
 
 /// Why nothing was read.
 #[derive(Clone, Copy, Debug, PartialEq, Eq)]
@@ -119,6 +119,18 @@ pub(crate) fn append<T: Drop>(items: &mut Vec<T>, item: T) -> Result<(), Fault>
     }
     items.push(item)?;
     Ok(())
+}
+
+/// Two items, with room for no more.
+pub(crate) fn pair<T: Drop>(alloc: Global, first: T, second: T) -> Result<Vec<T>, Fault>
+    ensures ok { IfOk result (λ v. v.items ≡ first ∷ second ∷ []) }
+    ensures memory { IfErr result (λ e. e ≡ Fault.Memory) }
+{
+    let mut items = Vec::new(alloc);
+    items.reserve_exact(2)?;
+    items.push(first)?;
+    items.push(second)?;
+    Ok(items)
 }
 
 /// One item and then others, as a list that takes no more memory than it needs.

@@ -1,8 +1,9 @@
 //! From the bytes to the workload.
 
-ghost use Rattle.std.specs.Prelude.{◌≡◌, ◌<◌, ◌≤◌, length, IfOk, IsErrOf};
+ghost use Rattle.std.specs.Prelude.{◌≡◌, ◌<◌, ◌≤◌, length, Err, IfOk, IsErrOf};
 ghost use Rattle.homeo_syntax.specs.declared.workload.Refusal.{Refusal};
 ghost use Rattle.homeo_syntax.specs.SourceView.{plain_workload};
+ghost use Rattle.homeo_syntax.specs.Tokens.{unversioned};
 ghost use Rattle.homeo_syntax.specs.Reads.{Reads, IsUnread, offset_at};
 ghost use Rattle.homeo_syntax.specs.WellFormed.{IsWellFormed};
 ghost use Rattle.homeo_reader.specs.inner.Exact.{ReadsExactly, ParsesExactly};
@@ -83,18 +84,26 @@ fn refused(code: u8, offset: u64) -> ReadRefusal
     ReadRefusal::Refused(Refusal { code, offset })
 }
 
-/// Reads a workload, or gives the code and the offset of the first fault.
+/// The refusal of a text in which no token begins at this offset. A bad byte comes first, wherever it stands.
+fn no_token(bytes: &[u8], offset: usize) -> ReadRefusal
+    requires { unversioned bytes.now ≡ Err offset }
+    ensures { ReadsExactly bytes.now (Err result) }
+{
+    match first_bad_byte(bytes) {
+        Some(bad) => refused(BAD_BYTE, bad as u64),
+        None => refused(NO_TOKEN, offset as u64),
+    }
+}
+
+/// Reads a workload, or gives the code and the offset of the first fault. Where all bytes are of tokens or spaces, none is bad.
 fn read_exactly(alloc: Global, bytes: &[u8]) -> Result<Workload, ReadRefusal>
     requires { length bytes.now ≤ 1048576 }
     ensures { ReadsExactly bytes.now result }
 {
-    if let Some(offset) = first_bad_byte(bytes) {
-        return Err(refused(BAD_BYTE, offset as u64));
-    }
     let numbered = match scan(alloc, bytes) {
         Ok(numbered) => numbered,
         Err(ScanError::Memory) => return Err(ReadRefusal::Memory),
-        Err(ScanError::At(offset)) => return Err(refused(NO_TOKEN, offset as u64)),
+        Err(ScanError::At(offset)) => return Err(no_token(bytes, offset)),
     };
     let Numbered {
         version,

@@ -12,7 +12,7 @@ use crate::sizes::{likely_size, totals_of};
 use homeo_history::{Closing, Entry, History, Round, Segment};
 use homeo_meaning::Accepted;
 use homeo_plan::Broken;
-use homeo_print::{ObjectNames, push_bytes, push_heading, push_integer, push_number};
+use homeo_print::{ObjectNames, push_byte, push_bytes, push_heading, push_number, push_wide};
 use homeo_syntax::{Memory, Workload};
 use std::alloc::Global;
 
@@ -46,14 +46,14 @@ fn push_closing_heading(out: &mut Vec<u8>, site: u32, broken: Broken) -> Result<
     ensures { OnOk result (out.new.items ≡ out.old.items ++ closing_heading site broken) }
 {
     push_bytes(out, b"close ")?;
-    push_integer(out, site)?;
+    push_number(out, site as u64)?;
     push_bytes(out, b" clause ")?;
-    push_integer(out, broken.clause)?;
+    push_number(out, broken.clause as u64)?;
     push_bytes(out, b" sum ")?;
-    push_integer(out, broken.sum)?;
+    push_wide(out, broken.sum)?;
     push_bytes(out, b" bound ")?;
-    push_integer(out, broken.bound)?;
-    push_bytes(out, b"\n")
+    push_wide(out, broken.bound)?;
+    push_byte(out, b'\n')
 }
 
 fn push_closing(out: &mut Vec<u8>, w: &Workload, closing: &Option<Closing>) -> Result<(), Memory>

@@ -43,9 +43,6 @@ AgreeUpTo k m n = min k m ≡ min k n
 pub total_known : (total next a e m : ℕ) → AgreeUpTo 2000001 total a → next ≡ min 8000001 (total + m) → m ≡ min 8000001 e → AgreeUpTo 2000001 next (a + e)
 total_known total next a e m agree is measured = omega (arith, clamps)
 
-pub total_unknown : (total next a e : ℕ) → next ≡ min 8000001 (total + 8000001) → 2000000 < a + e → AgreeUpTo 2000001 next (a + e)
-total_unknown total next a e is far = omega (arith, clamps)
-
 -- ---- along the calls
 abbrev pub before_of : List MeasuredCall → ℕ → List g.SitedCall
 before_of calls i = map call_of (take i calls)
@@ -106,6 +103,6 @@ again (c ∷ calls) (suc i) d h = again_other calls i (get_or calls i d) d (omeg
     again_other (c ∷ calls) zero d e h = refl
     again_other (c ∷ calls) (suc i) d e h = again_other calls i d e (omega arith)
 
-pub head_measured : (w : s.Workload) (calls : List MeasuredCall) (i : ℕ) (c : MeasuredCall) → i < length calls → get_or calls i c ≡ c → AreMeasured w (drop i calls) → IsMeasure (schema_of w) (nat_of w.sites.value) (call_form w (call_of c)) (known c.measure) × AreMeasured w (drop (i + 1) calls)
+pub head_measured : (w : s.Workload) (calls : List MeasuredCall) (i : ℕ) (c : MeasuredCall) → i < length calls → get_or calls i c ≡ c → AreMeasured w (drop i calls) → IsMeasure (schema_of w) (nat_of w.sites.value) (call_form w (call_of c)) (known c.body) × AreMeasured w (drop (i + 1) calls)
 head_measured w calls i c lt at h =
     subst (λ l. AreMeasured w l) (rw add-one (drop-cons calls i c lt) ∙ ap (λ d. d ∷ drop (i + 1) calls) at) h

@@ -1,75 +1,105 @@
--- Calls of one transaction with the same arguments have one measure.
-use Rattle.std.proofs.Common.{◌≡◌, ℕ, zero, suc, ◌<◌, ℤ, Bool, true, false, ◌&&◌, ◌==◌, List, [], ◌∷◌, ◌++◌, Option, Some, length, sym, subst, ◌∙◌, arith}
-use Rattle.std.specs.Prelude.{slice_get, slice_index_or, not, if◌then◌else◌}
+-- Calls of one transaction with the same arguments have one L form, and one measure.
+use Rattle.std.proofs.Common.{◌≡◌, ℕ, zero, suc, ◌<◌, Bool, true, false, ◌&&◌, ◌==◌, List, [], ◌∷◌, ◌++◌, map, Some, length, get_or, refl, sym, ap, subst, ◌∙◌, arith}
+use Rattle.std.specs.Prelude.{◌||◌, slice_get, slice_index_or, option_map, position, if◌then◌else◌}
 use Rattle.std.specs.Ordering.{int_eq}
 use Rattle.std.specs.Cmp.Lexicographic.{pointwise}
+use Rattle.std.specs.List.{list_any}
+use Rattle.std.proofs.lemmas.List.{map_push}
+use Rattle.std.proofs.lemmas.List.Quantifiers.{position-Some}
+use Rattle.std.proofs.lemmas.Option.{slice_get-map}
 use Rattle.homeo_lemmas.proofs.Bools.{and_first, and_second}
 use Rattle.homeo_lemmas.proofs.Lists.{numbers_same}
 use Rattle.homeo_lemmas.proofs.Naturals.{nat_is}
+use Rattle.homeo_syntax.specs.LowView.{plain_lcommand}
 use Rattle.homeo_syntax.specs.Source as s
-use Rattle.homeo_meaning.specs.Key.{definitions as meaning_definitions}
+use Rattle.homeo_syntax.specs.declared.low.LCommand.{LCommand}
+use Rattle.homeo_meaning.specs.Forms.{CallBody, same_body, with_body}
 use Rattle.homeo_meaning.specs.Schema.{nat_of, schema_of}
-use Rattle.homeo_meaning.specs.CallForm.{body_form}
-use Rattle.homeo_meaning.specs.GlobalNames as g
-use Rattle.homeo_meaning.specs.GlobalNames.{scope_of, transaction_at}
-use Rattle.homeo_size.specs.Measured.{IsMeasured}
+use Rattle.homeo_size.specs.Measured.{IsMeasure}
 use Rattle.homeo_size.specs.declared.measures.Measure.{Measure}
-use Rattle.homeo_rules.specs.inner.Bodies.{call_to, HaveMeasures}
-use Rattle.homeo_rules.specs.inner.Sizes.{IsMeasuredAs}
+use Rattle.homeo_rules.specs.inner.Bodies.{call_body, form_to, HaveMeasures}
 use Rattle.homeo_rules.specs.declared.rules.bodies.Body.{Body}
 
 -- ---- bodies that the code finds equal
 -- the test of two bodies in the code
-abbrev pub same_body : Body → Body → Bool
-same_body a b = (a.name == b.name) && pointwise int_eq a.args.items b.args.items
+abbrev pub same_code : Body → Body → Bool
+same_code a b = (a.transaction == b.transaction) && pointwise int_eq a.args.items b.args.items
 
--- ---- measures of calls that are alike
-measured_alike : (w : s.Workload) (c d : g.SitedCall) (o : Option Measure) → c.name.name ≡ d.name.name → c.args ≡ d.args → IsMeasuredAs w c o → IsMeasuredAs w d o
-unfolding meaning_definitions
-measured_alike w c d o name args h =
-    subst (λ (xs : List ℤ). IsMeasured (schema_of w) (nat_of w.sites.value) (body_form w (transaction_at w ((scope_of w).item d.name.name)) xs) o) args
-    (subst (λ (n : ℕ). IsMeasured (schema_of w) (nat_of w.sites.value) (body_form w (transaction_at w ((scope_of w).item n)) c.args) o) name h)
+alike : (a b : Body) → same_code a b ≡ true → call_body a ≡ call_body b
+alike a b same =
+    let number : a.transaction ≡ b.transaction = nat_is a.transaction b.transaction (and_first (a.transaction == b.transaction) (pointwise int_eq a.args.items b.args.items) same) in
+    let args : a.args.items ≡ b.args.items = numbers_same a.args.items b.args.items (and_second (a.transaction == b.transaction) (pointwise int_eq a.args.items b.args.items) same) in
+    λ i. record { transaction = number i; args = args i }
 
--- ---- lists of bodies with their measures
-measures_end : (w : s.Workload) (bs : List Body) (os : List (Option Measure)) (b : Body) (o : Option Measure) → HaveMeasures w bs os → IsMeasuredAs w (call_to b) o → HaveMeasures w (bs ++ b ∷ []) (os ++ o ∷ [])
-measures_end w [] [] b o h m = (m, tt)
-measures_end w [] (p ∷ os) b o h m = absurd h
-measures_end w (a ∷ bs) [] b o h m = absurd h
-measures_end w (a ∷ bs) (p ∷ os) b o h m = (h.0, measures_end w bs os b o h.1 m)
+pub any_body : (b : Body) (bs : List Body) → list_any (same_code b) bs ≡ list_any (same_body (call_body b)) (map call_body bs)
+any_body b [] = refl
+any_body b (k ∷ bs) = ap (λ t. same_code b k || t) (any_body b bs)
 
-pub measure_there : (w : s.Workload) (bs : List Body) (os : List (Option Measure)) (j : ℕ) (b : Body) → HaveMeasures w bs os → slice_get bs j ≡ Some b → j < length os
-measure_there w [] [] j b h e = cc
-measure_there w [] (p ∷ os) j b h e = absurd h
-measure_there w (a ∷ bs) [] j b h e = absurd h
-measure_there w (a ∷ bs) (p ∷ os) zero b h e = omega arith
-measure_there w (a ∷ bs) (p ∷ os) (suc j) b h e = omega (arith, measure_there w bs os j b h.1 e)
+-- one that is put stands behind the others, unless it is there
+pub keys_put : (b : Body) (bs found : List Body) → found ≡ (if list_any (same_code b) bs then bs else bs ++ b ∷ []) → map call_body found ≡ with_body (map call_body bs) (call_body b)
+keys_put b bs found put =
+    ap (map call_body) put ∙ either (list_any (same_code b) bs)
+    ∙ ap (λ t. if t then map call_body bs else map call_body bs ++ call_body b ∷ []) (any_body b bs)
+  where
+    either : (t : Bool) → map call_body (if t then bs else bs ++ b ∷ []) ≡ (if t then map call_body bs else map call_body bs ++ call_body b ∷ [])
+    either true = refl
+    either false = map_push call_body bs b
 
-measure_at : (w : s.Workload) (bs : List Body) (os : List (Option Measure)) (j : ℕ) (b : Body) (d : Option Measure) → HaveMeasures w bs os → slice_get bs j ≡ Some b → IsMeasuredAs w (call_to b) (slice_index_or os j d)
-measure_at w [] [] j b d h e = cc
-measure_at w [] (p ∷ os) j b d h e = absurd h
-measure_at w (a ∷ bs) [] j b d h e = absurd h
-measure_at w (a ∷ bs) (p ∷ os) zero b d h e =
-    let same : a ≡ b = cc in
-    subst (λ (x : Body). IsMeasuredAs w (call_to x) p) same h.0
-measure_at w (a ∷ bs) (p ∷ os) (suc j) b d h e = measure_at w bs os j b d h.1 e
+pub with_new : (bs : List CallBody) (b : CallBody) → list_any (same_body b) bs ≡ false → with_body bs b ≡ bs ++ b ∷ []
+with_new bs b new = ap (λ t. if t then bs else bs ++ b ∷ []) new
 
--- ---- a body that is put to those before it
-module _ (w : s.Workload) (c : g.SitedCall) (b : Body) (name : b.name ≡ c.name.name) (args : b.args.items ≡ c.args) where
-  put : (bs : List Body) → Bool → List Body
-  put bs there = if there then bs else bs ++ b ∷ []
+pub with_old : (bs : List CallBody) (b : CallBody) → list_any (same_body b) bs ≡ true → bs ≡ with_body bs b
+with_old bs b there = sym (ap (λ t. if t then bs else bs ++ b ∷ []) there)
 
-  pub put_new : (bs found : List Body) (os more : List (Option Measure)) (o : Option Measure) (there : Bool) → found ≡ (if there then bs else bs ++ b ∷ []) → not there ≡ true → more ≡ os ++ o ∷ [] → HaveMeasures w bs os → IsMeasuredAs w c o → HaveMeasures w found more
-  put_new bs found os more o true f n m h is = cc
-  put_new bs found os more o false f n m h is =
-      let here : IsMeasuredAs w (call_to b) o = measured_alike w c (call_to b) o (sym name) (sym args) is in
-      subst (λ (l : List Body). HaveMeasures w l more) (sym f) (subst (HaveMeasures w (bs ++ b ∷ [])) (sym m) (measures_end w bs os b o h here))
+-- ---- the place of one
+pub stored_place : (bs : List Body) (place : ℕ) (b k : Body) → slice_get bs place ≡ Some k → same_code b k ≡ true → slice_get (map call_body bs) place ≡ Some (call_body b)
+stored_place bs place b k at same = slice_get-map call_body bs place ∙ ap (option_map call_body) at ∙ ap Some (sym (alike b k same))
 
-  pub put_old : (bs found : List Body) (os : List (Option Measure)) (there : Bool) → found ≡ (if there then bs else bs ++ b ∷ []) → not there ≡ false → HaveMeasures w bs os → HaveMeasures w found os
-  put_old bs found os true f n h = subst (λ (l : List Body). HaveMeasures w l os) (sym f) h
-  put_old bs found os false f n h = cc
+pub found_place : (bs : List Body) (place : ℕ) (b : Body) → Some place ≡ position (same_code b) bs → slice_get (map call_body bs) place ≡ Some (call_body b)
+found_place bs place b found =
+    let p = position-Some (same_code b) bs place b (sym found) in
+    stored_place bs place b (get_or bs place b) (there bs place p.0) p.1
+  where
+    there : (l : List Body) (n : ℕ) → n < length l → slice_get l n ≡ Some (get_or l n b)
+    there [] n h = absurd (omega (arith, h))
+    there (x ∷ l) zero h = refl
+    there (x ∷ l) (suc n) h = there l n (omega (arith, h))
 
-  pub old_measure : (found : List Body) (os : List (Option Measure)) (j : ℕ) (k : Body) (d : Option Measure) → HaveMeasures w found os → slice_get found j ≡ Some k → same_body b k ≡ true → IsMeasuredAs w c (slice_index_or os j d)
-  old_measure found os j k d h at same =
-      let names : k.name ≡ c.name.name = sym (nat_is b.name k.name (and_first (b.name == k.name) (pointwise int_eq b.args.items k.args.items) same)) ∙ name in
-      let values : k.args.items ≡ c.args = sym (numbers_same b.args.items k.args.items (and_second (b.name == k.name) (pointwise int_eq b.args.items k.args.items) same)) ∙ args in
-      measured_alike w (call_to k) c (slice_index_or os j d) names values (measure_at w found os j k d h at)
+-- ---- bodies with their L forms and measures
+module _ (w : s.Workload) where
+  abbrev HasMeasure : CallBody → Measure → Type 0
+  HasMeasure b m = IsMeasure (schema_of w) (nat_of w.sites.value) (form_to w b) m
+
+  measures_end : (bs : List CallBody) (ms : List Measure) (b : CallBody) (m : Measure) → HaveMeasures w bs ms → HasMeasure b m → HaveMeasures w (bs ++ b ∷ []) (ms ++ m ∷ [])
+  measures_end [] [] b m h k = (k, tt)
+  measures_end [] (n ∷ ms) b m h k = absurd h
+  measures_end (a ∷ bs) [] b m h k = absurd h
+  measures_end (a ∷ bs) (n ∷ ms) b m h k = (h.0, measures_end bs ms b m h.1 k)
+
+  pub measure_there : (bs : List CallBody) (ms : List Measure) (j : ℕ) (b : CallBody) → HaveMeasures w bs ms → slice_get bs j ≡ Some b → j < length ms
+  measure_there [] [] j b h e = cc
+  measure_there [] (n ∷ ms) j b h e = absurd h
+  measure_there (a ∷ bs) [] j b h e = absurd h
+  measure_there (a ∷ bs) (n ∷ ms) zero b h e = omega arith
+  measure_there (a ∷ bs) (n ∷ ms) (suc j) b h e = omega (arith, measure_there bs ms j b h.1 e)
+
+  pub measure_at : (bs : List CallBody) (ms : List Measure) (j : ℕ) (b : CallBody) (d : Measure) → HaveMeasures w bs ms → slice_get bs j ≡ Some b → HasMeasure b (slice_index_or ms j d)
+  measure_at [] [] j b d h e = cc
+  measure_at [] (n ∷ ms) j b d h e = absurd h
+  measure_at (a ∷ bs) [] j b d h e = absurd h
+  measure_at (a ∷ bs) (n ∷ ms) zero b d h e =
+      let same : a ≡ b = cc in
+      subst (λ (x : CallBody). HasMeasure x n) same h.0
+  measure_at (a ∷ bs) (n ∷ ms) (suc j) b d h e = measure_at bs ms j b d h.1 e
+
+  -- one more
+  module _ (bs more : List CallBody) (b : CallBody) (new : list_any (same_body b) bs ≡ false) (put : more ≡ with_body bs b) where
+    pub more_forms : (old fs : List LCommand) (f : LCommand) → fs ≡ old ++ f ∷ [] → plain_lcommand f ≡ form_to w b → map plain_lcommand old ≡ map (form_to w) bs → map plain_lcommand fs ≡ map (form_to w) more
+    more_forms old fs f pushed is have =
+        ap (map plain_lcommand) pushed ∙ map_push plain_lcommand old f ∙ (λ i. have i ++ is i ∷ []) ∙ sym (map_push (form_to w) bs b)
+        ∙ ap (map (form_to w)) (sym (put ∙ with_new bs b new))
+
+    pub more_measures : (old ms : List Measure) (m : Measure) → ms ≡ old ++ m ∷ [] → HasMeasure b m → HaveMeasures w bs old → HaveMeasures w more ms
+    more_measures old ms m pushed is have =
+        subst (λ l. HaveMeasures w l ms) (sym (put ∙ with_new bs b new))
+        (subst (HaveMeasures w (bs ++ b ∷ [])) (sym pushed) (measures_end bs old b m have is))

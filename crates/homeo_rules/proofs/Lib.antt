@@ -12,6 +12,7 @@ pub mod Joining
 pub mod Limiting
 pub mod Listing
 pub mod Measured
+pub mod NamedCalls
 pub mod Numbers
 pub mod OneDecides
 pub mod Phases

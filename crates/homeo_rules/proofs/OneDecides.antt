@@ -11,7 +11,7 @@ use Rattle.homeo_meaning.specs.declared.rules.Fault.{Fault}
 use Rattle.homeo_meaning.specs.declared.rules.Phase.{Phase}
 use Rattle.homeo_meaning.specs.declared.rules.Phase.TheVariants as P
 
-irreflexive : (f : Fault) → comes_before f f ≡ false
+pub irreflexive : (f : Fault) → comes_before f f ≡ false
 unfolding definitions
 irreflexive f = grind (arith, nat_tests)
 
@@ -21,7 +21,7 @@ unfolding definitions
 beaten f g b x y = grind (arith, nat_tests)
 
 -- what does not beat one that does not beat f does not beat f
-weaker : (f g b : Fault) → comes_before g b ≡ false → comes_before b f ≡ false → comes_before g f ≡ false
+pub weaker : (f g b : Fault) → comes_before g b ≡ false → comes_before b f ≡ false → comes_before g f ≡ false
 unfolding definitions
 weaker f g b x y = grind (arith, nat_tests)
 

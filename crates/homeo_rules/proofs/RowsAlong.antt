@@ -98,7 +98,7 @@ pub rows_begin : (w : s.Workload) (start : Option Fault) (calls : List MeasuredC
 unfolding meaning_definitions
 rows_begin w start calls h = record { sum = refl; measured = h; left = refl }
 
-pub rows_next : (w : s.Workload) (start best new : Option Fault) (total product next : ℕ) (calls : List MeasuredCall) (i : ℕ) (c : MeasuredCall) (m : Measure) → i < length calls → get_or calls i c ≡ c → RowsSo w start best total calls i → m ≡ known c.measure → product ≡ min 8000001 (m.rows * m.size) → next ≡ min 8000001 (total + product) → new ≡ keep_all best (when (nat_lt 4096 m.rows || nat_lt 8000000 next) (fault Rows c.call.name)) → RowsSo w start new next calls (i + 1)
+pub rows_next : (w : s.Workload) (start best new : Option Fault) (total product next : ℕ) (calls : List MeasuredCall) (i : ℕ) (c : MeasuredCall) (m : Measure) → i < length calls → get_or calls i c ≡ c → RowsSo w start best total calls i → m ≡ known c.body → product ≡ min 8000001 (m.rows * m.size) → next ≡ min 8000001 (total + product) → new ≡ keep_all best (when (nat_lt 4096 m.rows || nat_lt 8000000 next) (fault Rows c.call.name)) → RowsSo w start new next calls (i + 1)
 unfolding meaning_definitions
 rows_next w start best new total product next calls i c m lt at so is times added checked =
     let head = head_measured w calls i c lt at so.measured in
@@ -124,6 +124,6 @@ rows_next w start best new total product next calls i c m lt at so is times adde
 pub rows_end : (w : s.Workload) (start best : Option Fault) (total : ℕ) (calls : List MeasuredCall) (i : ℕ) → length calls ≤ i → RowsSo w start best total calls i → best ≡ keep_all start (each (too_many_rows w) (map call_of calls))
 rows_end w start best total calls i h so = sym (none_more (too_many_rows w) best calls i h) ∙ so.left
 
-pub rows_step : (w : s.Workload) (start best new : Option Fault) (total product next : ℕ) (calls : List MeasuredCall) (i : ℕ) (d : MeasuredCall) (m : Measure) → i < length calls → RowsSo w start best total calls i → m ≡ known (get_or calls i d).measure → product ≡ min 8000001 (m.rows * m.size) → next ≡ min 8000001 (total + product) → new ≡ keep_all best (when (nat_lt 4096 m.rows || nat_lt 8000000 next) (fault Rows (get_or calls i d).call.name)) → RowsSo w start new next calls (i + 1)
+pub rows_step : (w : s.Workload) (start best new : Option Fault) (total product next : ℕ) (calls : List MeasuredCall) (i : ℕ) (d : MeasuredCall) (m : Measure) → i < length calls → RowsSo w start best total calls i → m ≡ known (get_or calls i d).body → product ≡ min 8000001 (m.rows * m.size) → next ≡ min 8000001 (total + product) → new ≡ keep_all best (when (nat_lt 4096 m.rows || nat_lt 8000000 next) (fault Rows (get_or calls i d).call.name)) → RowsSo w start new next calls (i + 1)
 rows_step w start best new total product next calls i d m lt so is times added checked =
     rows_next w start best new total product next calls i (get_or calls i d) m lt (again calls i d lt) so is times added checked

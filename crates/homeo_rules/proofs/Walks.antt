@@ -1,5 +1,5 @@
 -- The places of each kind of phrase, and following them.
-use Rattle.std.proofs.Common.{◌≡◌, ℕ, ℤ, List, [], ◌∷◌, ◌++◌, map, drop, length, ◌≤◌, refl, sym, ap, ◌∙◌}
+use Rattle.std.proofs.Common.{◌≡◌, ℕ, ℤ, List, [], ◌∷◌, ◌++◌, map, drop, length, ◌≤◌, Box, Global, refl, sym, ap, ◌∙◌}
 use Rattle.std.proofs.lemmas.List.{drop_all}
 use Rattle.homeo_syntax.specs.Key.{definitions as syntax_definitions}
 use Rattle.homeo_syntax.specs.Listed.{Listed}
@@ -36,7 +36,7 @@ pub plain-Cond : (c : Cond) → plain_cond c ≡ plain_tests (out-Cond c).tests.
 unfolding definitions
 plain-Cond c = v.plain_conjunction c
 
-pub plain-Foreach : (r q : Ident) (test : Cond) (body : Listed Command) → plain_command (C.Foreach r q test body) ≡ s.Foreach r q (plain_cond test) (plain_commands body.items)
+pub plain-Foreach : (r q : Ident) (test : Box Cond Global) (body : Listed Command) → plain_command (C.Foreach r q test body) ≡ s.Foreach r q (plain_cond test.value) (plain_commands body.items)
 unfolding definitions
 plain-Foreach r q test body = v.plain_Foreach r q test body
 

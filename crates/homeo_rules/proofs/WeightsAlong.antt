@@ -26,7 +26,7 @@ pub record WeightsSo (w : s.Workload) (start best : Option Fault) (calls : List 
 pub weights_begin : (w : s.Workload) (start : Option Fault) (calls : List MeasuredCall) → AreMeasured w calls → WeightsSo w start start calls 0
 weights_begin w start calls h = record { measured = h; left = refl }
 
-weights_next : (w : s.Workload) (start best new : Option Fault) (calls : List MeasuredCall) (i : ℕ) (c : MeasuredCall) (m : Measure) → i < length calls → get_or calls i c ≡ c → WeightsSo w start best calls i → m ≡ known c.measure → new ≡ keep_all best (when (not (nat_le m.weight 1000000000000000000)) (fault Weight c.call.name)) → WeightsSo w start new calls (i + 1)
+weights_next : (w : s.Workload) (start best new : Option Fault) (calls : List MeasuredCall) (i : ℕ) (c : MeasuredCall) (m : Measure) → i < length calls → get_or calls i c ≡ c → WeightsSo w start best calls i → m ≡ known c.body → new ≡ keep_all best (when (not (nat_le m.weight 1000000000000000000)) (fault Weight c.call.name)) → WeightsSo w start new calls (i + 1)
 unfolding meaning_definitions
 weights_next w start best new calls i c m lt at so is checked =
     let head = head_measured w calls i c lt at so.measured in
@@ -40,7 +40,7 @@ weights_next w start best new calls i c m lt at so is checked =
           ∙ so.left;
     }
 
-pub weights_step : (w : s.Workload) (start best new : Option Fault) (calls : List MeasuredCall) (i : ℕ) (d : MeasuredCall) (m : Measure) → i < length calls → WeightsSo w start best calls i → m ≡ known (get_or calls i d).measure → new ≡ keep_all best (when (not (nat_le m.weight 1000000000000000000)) (fault Weight (get_or calls i d).call.name)) → WeightsSo w start new calls (i + 1)
+pub weights_step : (w : s.Workload) (start best new : Option Fault) (calls : List MeasuredCall) (i : ℕ) (d : MeasuredCall) (m : Measure) → i < length calls → WeightsSo w start best calls i → m ≡ known (get_or calls i d).body → new ≡ keep_all best (when (not (nat_le m.weight 1000000000000000000)) (fault Weight (get_or calls i d).call.name)) → WeightsSo w start new calls (i + 1)
 weights_step w start best new calls i d m lt so is checked = weights_next w start best new calls i (get_or calls i d) m lt (again calls i d lt) so is checked
 
 pub weights_end : (w : s.Workload) (start best : Option Fault) (calls : List MeasuredCall) (i : ℕ) → length calls ≤ i → WeightsSo w start best calls i → best ≡ keep_all start (flat_map (heavy_call w) (map call_of calls))

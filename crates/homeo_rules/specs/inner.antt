@@ -10,6 +10,7 @@ pub mod Items
 pub mod Key
 pub mod Limited
 pub mod Listwise
+pub mod Order
 pub mod Params
 pub mod Plain
 pub mod Printing

@@ -7,7 +7,7 @@ ghost use Rattle.homeo_meaning.specs.Faults.{faults, IsRefusedBy};
 ghost use Rattle.homeo_syntax.specs.declared.workload.Refusal.{Refusal};
 
 use crate::deciding::code;
-use crate::decision::{Decision, decide};
+use crate::decision::decide;
 use homeo_meaning::{Accepted, Purpose};
 use homeo_syntax::{Refusal, Workload};
 use std::alloc::Global;
@@ -34,12 +34,12 @@ pub fn accept(alloc: Global, w: Workload, purpose: Purpose) -> Result<Accepted, 
     ensures refused { (r : Refusal) → IsErrOf result (RuleRefusal.Refused r) →
         IsRefusedBy purpose (plain_workload w) r }
 {
-    let Ok(Decision { fault, places }) = decide(alloc, purpose, &w) else {
+    let Ok(decided) = decide(alloc, purpose, &w) else {
         return Err(RuleRefusal::Memory);
     };
-    match fault {
-        None => Ok(Accepted::with_places(w, places)),
-        Some(fault) => Err(RuleRefusal::Refused(Refusal {
+    match decided {
+        Ok(findings) => Ok(Accepted::with_findings(w, findings)),
+        Err(fault) => Err(RuleRefusal::Refused(Refusal {
             code: code(fault.phase),
             offset: fault.offset,
         })),

@@ -1,19 +1,21 @@
-//! The fault of a workload that decides.
+//! What is decided of a workload: the fault that decides, or else what was found on the way.
 
 ghost use Rattle.std.specs.Prelude.{◌≡◌, None, map, IfOk};
 ghost use Rattle.homeo_syntax.specs.SourceView.{plain_workload};
 ghost use Rattle.homeo_syntax.specs.WellFormed.{IsWellFormed};
 ghost use Rattle.homeo_rules.specs.inner.Deciding.{keep_all};
-ghost use Rattle.homeo_meaning.specs.CallPlaces.{call_places};
+ghost use Rattle.homeo_syntax.specs.LowView.{plain_lcommand};
+ghost use Rattle.homeo_meaning.specs.Findings.{AreFindings};
+ghost use Rattle.homeo_meaning.specs.Forms.{AreForms};
 ghost use Rattle.homeo_meaning.specs.GlobalNames.{scope_of, sited_calls};
 ghost use Rattle.homeo_meaning.specs.NumberRules.{ground_calls, limit_faults};
 ghost use Rattle.homeo_meaning.specs.CallRules.{schedule_faults};
 ghost use Rattle.homeo_meaning.specs.Faults.{declared_faults, faults};
 ghost use Rattle.homeo_rules.specs.inner.Scopes.{scope_in};
 ghost use Rattle.homeo_ground.specs.Sited.{sited};
-ghost use Rattle.homeo_rules.specs.inner.Decided.{NamesGlobals, name_fault, faults_with_names};
+ghost use Rattle.homeo_rules.specs.inner.Decided.{NamesGlobals, name_fault, faults_with_names, fault_of};
 
-use crate::forms::check_forms;
+use crate::forms::{Forms, check_forms};
 use crate::names::field_table::FieldTable;
 use crate::names::items::{self, Items};
 use crate::names::scope::Scope;
@@ -30,7 +32,7 @@ use crate::rules::site_weights::check_site_weights;
 use crate::sited::sited_calls;
 use crate::transaction::check_transactions;
 use homeo_ground::{SitedCall, number_clients};
-use homeo_meaning::{Fault, Purpose};
+use homeo_meaning::{Fault, Findings, Purpose};
 use homeo_syntax::{Memory, Workload};
 use std::alloc::Global;
 
@@ -138,7 +140,7 @@ fn text(
     schedule(alloc, purpose, w, scope, best)
 }
 
-/// The fault that decides, with the calls and the fault that decides among those of the global names.
+/// The L forms, or the fault that decides, with the calls and the fault that decides among those of the global names.
 fn with_calls(
     alloc: Global,
     purpose: Purpose,
@@ -147,26 +149,20 @@ fn with_calls(
     calls: &[SitedCall<'_>],
     grounds: &[SitedCall<'_>],
     best: Option<Fault>,
-) -> Result<Option<Fault>, Memory>
+) -> Result<Result<Forms, Fault>, Memory>
     requires formed { IsWellFormed (plain_workload w.now) }
     requires names { scope_in scope.now ≡ scope_of (plain_workload w.now) }
     requires sited { map sited calls.now ≡ sited_calls (plain_workload w.now) }
     requires grounds { map sited grounds.now ≡ ground_calls (plain_workload w.now) }
     requires best { best ≡ name_fault (plain_workload w.now) }
-    ensures { IfOk result (λ b. b ≡ keep_all None (faults purpose (plain_workload w.now))) }
+    ensures fault { IfOk result (λ r. fault_of r ≡ keep_all None (faults purpose (plain_workload w.now))) }
+    ensures forms { IfOk result (λ r. IfOk r (λ f. AreForms (plain_workload w.now) (map plain_lcommand f.forms.items) f.places.items)) }
 {
     let best = text(alloc, purpose, w, scope, calls, grounds, best)?;
     match best {
-        Some(_) => Ok(best),
+        Some(fault) => Ok(Err(fault)),
         None => check_forms(alloc, purpose, w, scope, calls, grounds),
     }
-}
-
-/// The fault that decides, if there is one, and by client the places of the calls among the ground calls.
-#[derive(Drop)]
-pub(crate) struct Decision {
-    pub fault: Option<Fault>,
-    pub places: Vec<Vec<usize>>,
 }
 
 /// The decision, with the scope of the global names and the fault that decides among theirs.
@@ -176,16 +172,16 @@ fn in_scope(
     w: &Workload,
     scope: &Scope<'_>,
     best: Option<Fault>,
-) -> Result<Decision, Memory>
+) -> Result<Result<Findings, Fault>, Memory>
     requires formed { IsWellFormed (plain_workload w.now) }
     requires names { scope_in scope.now ≡ scope_of (plain_workload w.now) }
     requires best { best ≡ name_fault (plain_workload w.now) }
-    ensures fault { IfOk result (λ d. d.fault ≡ keep_all None (faults purpose (plain_workload w.now))) }
-    ensures places { IfOk result (λ d. map (λ row. row.items) d.places.items ≡ call_places (plain_workload w.now)) }
+    ensures fault { IfOk result (λ r. fault_of r ≡ keep_all None (faults purpose (plain_workload w.now))) }
+    ensures findings { IfOk result (λ r. IfOk r (AreFindings (plain_workload w.now))) }
 {
     let calls = sited_calls(alloc, w.clients.as_slice())?;
     let numbered = number_clients(alloc, w.clients.as_slice())?;
-    let fault = with_calls(
+    let decided = with_calls(
         alloc,
         purpose,
         w,
@@ -194,17 +190,25 @@ fn in_scope(
         numbered.calls.as_slice(),
         best,
     )?;
-    Ok(Decision {
-        fault,
-        places: numbered.places,
-    })
+    match decided {
+        Err(fault) => Ok(Err(fault)),
+        Ok(Forms { forms, places }) => Ok(Ok(Findings {
+            calls: numbered.places,
+            forms,
+            places,
+        })),
+    }
 }
 
-/// The fault that decides, if there is one, and the places of the calls.
-pub(crate) fn decide(alloc: Global, purpose: Purpose, w: &Workload) -> Result<Decision, Memory>
+/// What was found of a workload, or the fault that decides.
+pub(crate) fn decide(
+    alloc: Global,
+    purpose: Purpose,
+    w: &Workload,
+) -> Result<Result<Findings, Fault>, Memory>
     requires { IsWellFormed (plain_workload w.now) }
-    ensures fault { IfOk result (λ d. d.fault ≡ keep_all None (faults purpose (plain_workload w.now))) }
-    ensures places { IfOk result (λ d. map (λ row. row.items) d.places.items ≡ call_places (plain_workload w.now)) }
+    ensures fault { IfOk result (λ r. fault_of r ≡ keep_all None (faults purpose (plain_workload w.now))) }
+    ensures findings { IfOk result (λ r. IfOk r (AreFindings (plain_workload w.now))) }
 {
     let items = global_names(alloc, w)?;
     let fields = FieldTable::of(alloc, w.relations.as_slice())?;

@@ -29,11 +29,10 @@ use Rattle.homeo_history.specs.Key.{definitions as history_definitions}
 use Rattle.homeo_history.specs.Replayed.{MeetsTreaty, finding_at}
 use Rattle.homeo_history.specs.declared.history.Segment.{Segment}
 use Rattle.homeo_site.specs.OwnTreaty.{OwnClause, SumsFit, own_clauses}
-use Rattle.homeo_site.specs.SiteView.{StartValue, with_deltas}
+use Rattle.homeo_site.specs.SiteView.{StartValue}
 use Rattle.homeo_site.specs.Standing.{IsStart}
 use Rattle.homeo_site.specs.inner.Bare.{IsBare}
 use Rattle.homeo_site.specs.inner.OwnRound.{IsOwnRound}
-use Rattle.homeo_site.specs.inner.Ready.{IsReady}
 use Rattle.homeo_site.proofs.Limits.{few_values}
 use Rattle.homeo_site.proofs.OwnFits.{own_clauses_fit}
 

@@ -1,5 +1,5 @@
 -- A site that keeps nothing of what it ran has all that a call's local step needs, before it and after it.
-use Rattle.std.proofs.Common.{◌≡◌, ℕ, false, List, ℤ, ◌+ℤ◌, replicate, length, pos, Option, None, refl, sym, ap, ◌∙◌, subst}
+use Rattle.std.proofs.Common.{◌≡◌, ℕ, false, List, ℤ, ◌+ℤ◌, replicate, length, pos, Option, None, sym, ap, ◌∙◌, subst}
 use Rattle.homeo_syntax.specs.Source as s
 use Rattle.homeo_syntax.specs.SourceView.{plain_workload}
 use Rattle.homeo_meaning.specs.Acceptance.{IsAccepted}
@@ -84,6 +84,10 @@ module _ (v : StartValue) (x : List ℤ) (u : BareValue) (is : in_value v x ≡ 
 
   left_here : next ≡ step_deltas (plain_workload v.work) (with_deltas v x) call
   left_here = left_is ∙ ap (λ y. step_deltas (plain_workload v.work) (with_deltas v y) call) here
+
+  pub run_count : length next ≡ length x
+  run_count =
+      ap length left_here ∙ count_left (plain_workload v.work) v x bare.accepted bare.ready call at_here ∙ sym bare.ready.count
 
   module _ (written lent : List ℕ) (same : lent ≡ written) (lent_next : List ℤ) (are : lent_next ≡ next) (others : (n : ℕ) → has n written ≡ false → values_of next n ≡ values_of d n) (o : Option Broken) (found : (s : IsAfterStep (plain_workload v.work) v lent lent_next) → o ≡ step_finding (plain_workload v.work) (with_deltas v s.before) s.call) where
     others_here : (n : ℕ) → has n lent ≡ false → values_of lent_next n ≡ values_of x n

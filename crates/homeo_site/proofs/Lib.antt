@@ -2,6 +2,9 @@ pub mod AtDeltas
 pub mod BareSites
 pub mod CallsOfSites
 pub mod Earliest
+pub mod EffectLists
+pub mod FollowedCalls
+pub mod LevelLists
 pub mod Limits
 pub mod LocalSteps
 pub mod Numbered
@@ -20,7 +23,10 @@ pub mod PlanClauses
 pub mod SiteAttempts
 pub mod SitesHold
 pub mod SiteViews
+pub mod SmallPrints
 pub mod StepFindings
+pub mod StepsByForms
 pub mod StepsRun
 pub mod TemplateClauses
+pub mod Valued
 pub mod WalkRuns

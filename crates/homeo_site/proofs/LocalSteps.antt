@@ -27,7 +27,7 @@ use Rattle.homeo_plan.proofs.Policy.{policy_fits}
 use Rattle.homeo_plan.proofs.Replays.{can_step, replays_within}
 use Rattle.homeo_history.specs.Key.{definitions as history_definitions}
 use Rattle.homeo_history.specs.Legal.{IsCallAt}
-use Rattle.homeo_delta.proofs.Folds.{values_are}
+use Rattle.homeo_delta.proofs.ValuesFrom.{values_are}
 use Rattle.homeo_site.specs.Key.{definitions}
 use Rattle.homeo_site.specs.SiteState.{SiteState, SiteHolds, step_values, step_deltas}
 use Rattle.homeo_site.specs.inner.Ready.{IsReady}

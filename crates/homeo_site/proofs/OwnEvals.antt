@@ -1,12 +1,9 @@
 -- A call's local step is its command, run on base plus own deltas.
-use Rattle.std.proofs.Common.{◌≡◌, ℕ, ◌==◌, ◌+◌, ◌*◌, ◌^◌, ◌<◌, ◌≤◌, Bool, true, false, cond, ◌&&◌, List, [], ◌∷◌, suc, length, get_or, ℤ, pos, ◌+ℤ◌, ◌-ℤ◌, FitsSigned, refl, sym, ap, ap₂, ◌∙◌, subst, arith}
-use mathlib.Core.Path.{fun_ext}
+use Rattle.std.proofs.Common.{◌≡◌, ℕ, ◌+◌, ◌*◌, ◌^◌, ◌<◌, ◌≤◌, true, List, [], ◌∷◌, suc, length, get_or, ℤ, pos, ◌+ℤ◌, ◌-ℤ◌, FitsSigned, refl, sym, ap, ap₂, ◌∙◌, subst, arith}
 use Rattle.std.specs.Int.{w64}
 use Rattle.std.specs.Int.RustNames.{unsigned_abs}
 use Rattle.std.proofs.lemmas.Int.{ints, fits_signed_from_abs}
-use Rattle.std.proofs.lemmas.Bool.Decides.{nat_tests}
-use Rattle.homeo_syntax.specs.declared.low.SplitName.TheVariants.{Whole, Base, Delta}
-use Rattle.homeo_syntax.specs.Low.{Command, Commands, Skip, Assign, Write, Print, Seq, If, NoCommand, MoreCommand}
+use Rattle.homeo_syntax.specs.Low.{Command}
 use Rattle.homeo_syntax.specs.Source as s
 use Rattle.homeo_meaning.specs.Key.{definitions as meaning_definitions}
 use Rattle.homeo_meaning.specs.declared.call.CallId.{CallId}
@@ -15,10 +12,9 @@ use Rattle.homeo_meaning.specs.Bounds.{all_bounds, AllWithin, IsWithin}
 use Rattle.homeo_meaning.specs.CallForm.{ground_form}
 use Rattle.homeo_meaning.specs.Calls.{CallExists}
 use Rattle.homeo_meaning.specs.LowMeaning.{BaseAt, exec, whole}
-use Rattle.homeo_meaning.specs.NamesWithin.{NamesWithin, AllNamesWithin}
+use Rattle.homeo_meaning.specs.NamesWithin.{NamesWithin}
 use Rattle.homeo_meaning.specs.Schema.{schema_of}
 use Rattle.homeo_meaning.specs.Serial.{values_of, values_from, database_like}
-use Rattle.homeo_meaning.specs.Whole.{IsWhole, AreWhole}
 use Rattle.homeo_meaning.proofs.Within.{all_within, list_in, length_in}
 use Rattle.homeo_lform.proofs.NamedWithin.{named_law}
 use Rattle.homeo_plan.specs.Key.{definitions as plan_definitions}
@@ -31,18 +27,18 @@ use Rattle.homeo_plan.specs.Soundness.{StepsFold}
 use Rattle.homeo_plan.specs.Template.{PlannedCall}
 use Rattle.homeo_plan.specs.Treaty.{Treaty}
 use Rattle.homeo_plan.proofs.GroundNumbers.{values_small}
-use Rattle.homeo_plan.proofs.OwnWithin.{only, only_keeps, only_here, only_folded}
+use Rattle.homeo_plan.proofs.OwnWithin.{only, only_keeps, only_here, only_folded, only_again}
 use Rattle.homeo_plan.proofs.PlannedCalls.{planned_member}
 use Rattle.homeo_plan.proofs.Policy.{policy_fits}
 use Rattle.homeo_plan.proofs.Replays.{planned_whole, planned_covers}
 use Rattle.homeo_plan.proofs.Stepped.{stepped}
-use Rattle.homeo_split.specs.Key.{definitions as split_definitions}
 use Rattle.homeo_split.specs.CanExec.{run_limit, can_exec}
-use Rattle.homeo_split.specs.Shape.{has_places, has_places_all}
+use Rattle.homeo_split.specs.Shape.{has_places}
+use Rattle.homeo_split.proofs.WholePlaces.{places_law}
 use Rattle.homeo_local.specs.OwnValues.{own_values, own_shape}
 use Rattle.homeo_history.specs.Key.{definitions as history_definitions}
 use Rattle.homeo_history.specs.Legal.{IsCallAt}
-use Rattle.homeo_history.proofs.ValueLists.{values_like}
+use Rattle.homeo_meaning.proofs.ValueLists.{values_like}
 use Rattle.homeo_build.proofs.Planning.{form_runs}
 use Rattle.homeo_site.specs.Key.{definitions}
 use Rattle.homeo_site.specs.SiteState.{SiteState, step_prints, step_values, step_deltas}
@@ -50,34 +46,6 @@ use Rattle.homeo_site.specs.inner.Ready.{IsReady}
 use Rattle.homeo_site.proofs.CallsOfSites.{call_site}
 use Rattle.homeo_site.proofs.LocalSteps.{stays_within}
 use Rattle.homeo_site.proofs.StepsRun.{HasGroundCall, has_ground_call}
-
--- ---- a command over whole objects writes objects that are there
-module _ (objects names : ℕ) where
-  mutual
-    unfolding meaning_definitions split_definitions
-
-    places_there : (c : Command) → IsWhole c → NamesWithin objects names c → has_places (own_shape objects) c ≡ true
-    places_there Skip is within = refl
-    places_there (Assign t e) is within = refl
-    places_there (Write (Whole x) e) is within = grind (arith, nat_tests, within.0)
-    places_there (Write (Base x) e) is within = absurd is.0
-    places_there (Write (Delta x j) e) is within = absurd is.0
-    places_there (Print e) is within = refl
-    places_there (Seq cs) is within = all_places_there cs is within
-    places_there (If b c d) is within = ap₂ ◌&&◌ (places_there c is.1 within.1) (places_there d is.2 within.2)
-
-    all_places_there : (cs : Commands) → AreWhole cs → AllNamesWithin objects names cs → has_places_all (own_shape objects) cs ≡ true
-    all_places_there NoCommand is within = refl
-    all_places_there (MoreCommand c cs) is within = ap₂ ◌&&◌ (places_there c is.0 within.0) (all_places_there cs is.1 within.1)
-
--- ---- one site's deltas alone, put again
-put_again : (i : ℕ) (x y : Deltas) → with_site (only i x) i y ≡ only i y
-unfolding plan_definitions meaning_definitions
-put_again i x y = fun_ext (λ j. go (i == j))
-  where
-    go : (v : Bool) → (let d : Deltas = cond v y (cond v x (λ n. pos 0)) in d) ≡ cond v y (λ n. pos 0)
-    go true = refl
-    go false = refl
 
 small_fits : (v : ℤ) → unsigned_abs v ≤ 3 * 10 ^ 12 → FitsSigned w64 v
 small_fits v h = fits_signed_from_abs w64 v (omega (arith, h))
@@ -149,7 +117,7 @@ module _
         ap (λ y. (exec g.command (whole y)).state (BaseAt n)) (sym alone_is)
         ∙ ap (λ (f : ℕ → ℤ). f n)
         (one.after ∙ ap (λ y. folded k b (with_site (only i d) i (local_deltas k b g y))) (only_here i d)
-        ∙ ap (folded k b) (put_again i d (local_deltas k b g d)) ∙ only_folded k b i (local_deltas k b g d) h.site)
+        ∙ ap (folded k b) (only_again i d (local_deltas k b g d)) ∙ only_folded k b i (local_deltas k b g d) h.site)
 
     -- what it needs
     ground : HasGroundCall w g
@@ -171,7 +139,7 @@ module _
     unfolding plan_definitions meaning_definitions
     eval_places =
         subst (λ n. has_places (own_shape n) g.command ≡ true) (sym (h.count ∙ length_in (all_bounds (schema_of w)) base h.within))
-        (places_there (length (all_bounds (schema_of w))) (length w.names) g.command (planned_whole w g member)
+        (places_law (length (all_bounds (schema_of w))) (length w.names) (own_shape (length (all_bounds (schema_of w)))) g.command (omega arith) (planned_whole w g member)
         (subst (NamesWithin (length (all_bounds (schema_of w))) (length w.names)) (ap (λ (c : PlannedCall). c.command) ground.is)
         (named_law w ground.from accepted)))
 
@@ -256,3 +224,8 @@ module _
     deltas_left new count left =
         list_is x.base new (step_values w x call) (count ∙ h.count)
         (run_deltas w x.base (policy w x.base) x.number x.deltas accepted ready call at.exists here f bs is same new left)
+
+    pub value_left :
+        (n : ℕ) → (exec (planned_at w call).command (whole (own_values x.base x.deltas))).state (BaseAt n) ≡ values_of x.base n +ℤ step_values w x call n
+    unfolding definitions history_definitions
+    value_left = eval_values w x.base (policy w x.base) x.number x.deltas accepted ready call at.exists here

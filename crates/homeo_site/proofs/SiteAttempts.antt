@@ -25,7 +25,7 @@ use Rattle.homeo_site.specs.declared.attempts.Change.{Change}
 use Rattle.homeo_site.specs.inner.Ready.{IsReady, IsAfterStep}
 use Rattle.homeo_outline.specs.Numbers.{has}
 use Rattle.homeo_site.specs.Standing.{IsSite, state_in}
-use Rattle.homeo_site.proofs.LocalSteps.{ready}
+use Rattle.homeo_site.proofs.LocalSteps.{count_like, ready}
 use Rattle.homeo_site.proofs.SitesHold.{local_holds}
 use Rattle.homeo_site.proofs.SiteViews.{value_in}
 
@@ -57,6 +57,13 @@ module _
     deltas_here =
         ap (λ (y : List ℤ). step_deltas (plain_workload v.work) (with_deltas v y) call) same_deltas
         ∙ ap (λ (y : SiteValue). step_deltas (plain_workload y.work) y.state call) is
+
+    pub count_here :
+        IsSite v x s → (deltas : List ℤ) → deltas ≡ step_deltas (plain_workload u.work) u.state call → length deltas ≡ length d
+    unfolding definitions
+    count_here site deltas left =
+        ap length left ∙ count_like u.state.base (step_values (plain_workload u.work) u.state call)
+        ∙ sym (ap (λ (y : SiteValue). length y.state.base) is) ∙ sym site.holds.count ∙ sym (ap length same_deltas)
 
     pub prints_here : step_prints (plain_workload v.work) (with_deltas v d) call ≡ step_prints (plain_workload u.work) u.state call
     unfolding definitions
@@ -98,14 +105,16 @@ copies_fit u call prints copies is h k d lt =
 -- ---- outcomes
 pub change_is :
     (w : s.Workload) (x : SiteState) (call : CallId) (c : Change) → step_finding w x call ≡ None → c.call ≡ call →
-    c.deltas.items ≡ step_deltas w x call → c.prints.items ≡ step_prints w x call → IsChange w x call c
+    c.deltas.items ≡ step_deltas w x call → c.prints.items ≡ step_prints w x call →
+    ((n : ℕ) → has n c.written.items ≡ false → values_of c.deltas.items n ≡ values_of x.deltas n) → IsChange w x call c
 unfolding definitions history_definitions
-change_is w x call c none name deltas prints =
+change_is w x call c none name deltas prints written =
     record {
       keeps = (finding_law (template_at w x.base) (policy w x.base) x.number (step_values w x call)).none none;
       call = name;
       deltas = deltas;
       prints = prints;
+      written = written;
     }
 
 -- ---- a commit

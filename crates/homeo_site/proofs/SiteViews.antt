@@ -48,31 +48,37 @@ start_value v u x s is same =
     let here : value_in v x s ≡ begun_value v = λ j. record { work = v.work; state = state j; spare = spare j } in
     here ∙ ap begun_value same
 
--- ---- another spare
-same_state : (v : StartValue) (x : List ℤ) (s t : Segment) → t.entries.items ≡ s.entries.items → state_in v x t ≡ state_in v x s
+-- ---- another spare, and the deltas by another name
+same_state :
+    (v : StartValue) (x y : List ℤ) (s t : Segment) → y ≡ x → t.entries.items ≡ s.entries.items → state_in v y t ≡ state_in v x s
 unfolding history_definitions
-same_state v x s t same =
+same_state v x y s t deltas same =
     let segment : plain_segment t ≡ plain_segment s = ap (map plain_entry) same in
-    λ j. record { number = v.number; round = v.round; base = v.base; deltas = x; segment = segment j }
+    λ j. record { number = v.number; round = v.round; base = v.base; deltas = deltas j; segment = segment j }
 
 pub still_site :
-    (v y : StartValue) (x : List ℤ) (s t : Segment) → IsSite v x s → y ≡ v → t.entries.items ≡ s.entries.items → IsSite y x t
-still_site v y x s t is own same =
-    subst (λ (z : StartValue). IsSite z x t) (sym own)
-    (record { accepted = is.accepted; holds = subst (SiteHolds (plain_workload v.work)) (sym (same_state v x s t same)) is.holds })
+    (v : StartValue) (x y : List ℤ) (s t : Segment) → IsSite v x s → y ≡ x → t.entries.items ≡ s.entries.items → IsSite v y t
+still_site v x y s t is deltas same =
+    record {
+      accepted = is.accepted;
+      holds = subst (SiteHolds (plain_workload v.work)) (sym (same_state v x y s t deltas same)) is.holds;
+    }
 
 -- the value with another spare
 abbrev pub with_spare : SiteValue → ℕ → SiteValue
 with_spare v n = record { work = v.work; state = v.state; spare = n }
 
+pub same_spare : (u v : SiteValue) → u ≡ v → u ≡ with_spare v u.spare
+same_spare u v is = λ j. record { work = (is j).work; state = (is j).state; spare = u.spare }
+
 pub spare_changed :
-    (v y : StartValue) (x : List ℤ) (s t : Segment) (u : SiteValue) → y ≡ v → t.entries.items ≡ s.entries.items → value_in v x s ≡ u →
-    value_in y x t ≡ with_spare u t.entries.spare
-spare_changed v y x s t u own same is =
-    let state = same_state v x s t same in
-    let here : value_in v x t ≡ with_spare (value_in v x s) t.entries.spare =
+    (v : StartValue) (x y : List ℤ) (s t : Segment) (u : SiteValue) → y ≡ x → t.entries.items ≡ s.entries.items → value_in v x s ≡ u →
+    value_in v y t ≡ with_spare u t.entries.spare
+spare_changed v x y s t u deltas same is =
+    let state = same_state v x y s t deltas same in
+    let here : value_in v y t ≡ with_spare (value_in v x s) t.entries.spare =
     λ j. record { work = v.work; state = state j; spare = t.entries.spare } in
-    ap (λ (z : StartValue). value_in z x t) own ∙ here ∙ ap (λ (z : SiteValue). with_spare z t.entries.spare) is
+    here ∙ ap (λ (z : SiteValue). with_spare z t.entries.spare) is
 
 -- ---- room
 pub room_is :

@@ -12,12 +12,14 @@ use Rattle.homeo_site.specs.declared.attempts.Outcome.{Outcome}
 use Rattle.homeo_site.specs.declared.attempts.Outcome.TheVariants.{Keeps, Breaks}
 use Rattle.homeo_site.specs.declared.attempts.Room.{Room}
 
--- the change is what the call's local step makes of the site, and keeps the site's treaty
+-- the change is what the call's local step makes of the site, and keeps the site's treaty; objects that aren't among those written have
+-- the deltas that they had
 pub record IsChange (w : s.Workload) (x : SiteState) (id : CallId) (c : Change) : Type 0 where
   pub keeps : KeepsCall w x id
   pub call : c.call ≡ id
   pub deltas : c.deltas.items ≡ step_deltas w x id
   pub prints : c.prints.items ≡ step_prints w x id
+  pub written : (n : ℕ) → has n c.written.items ≡ false → values_of c.deltas.items n ≡ values_of x.deltas n
 
 -- it keeps with the change that the local step makes, or breaks with what fails first
 abbrev pub IsOutcome : s.Workload → SiteState → CallId → Outcome → Type 0

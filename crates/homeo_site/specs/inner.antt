@@ -1,4 +1,5 @@
 pub mod Bare
+pub mod Effects
 pub mod Failures
 pub mod OwnRound
 pub mod Parts

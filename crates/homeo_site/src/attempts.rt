@@ -2,7 +2,7 @@
 
 use homeo_meaning::{CallId, Database};
 use homeo_plan::Broken;
-use homeo_syntax::Prints;
+use homeo_syntax::{List, Prints};
 
 /// What the attempt of a call at its site comes to (Roy et al., SIGMOD 2015).
 #[derive(Drop)]
@@ -19,6 +19,8 @@ pub struct Change {
     pub call: CallId,
     /// The site's deltas after the call, one for each object.
     pub deltas: Database,
+    /// The objects that the call wrote, by number: rising, each once.
+    pub written: List<u32>,
     /// What the call prints, in order.
     pub prints: Prints,
 }
@@ -30,7 +32,7 @@ pub struct Room {
     /// The site's deltas after the call, one for each object.
     pub deltas: Database,
     /// The objects that the call wrote, by number: rising, each once.
-    pub written: homeo_syntax::List<u32>,
+    pub written: List<u32>,
     /// What the call prints, in order.
     pub prints: Prints,
 }

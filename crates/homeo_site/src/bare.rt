@@ -12,6 +12,7 @@ ghost use Rattle.homeo_history.specs.Replayed.{MeetsTreaty};
 ghost use Rattle.homeo_site.specs.BareView.{bare_begun, IsRan, after_ran};
 ghost use Rattle.homeo_site.specs.SiteView.{with_deltas};
 
+use crate::own_deltas::OwnDeltas;
 use crate::own_round::OwnRound;
 use crate::start::SiteStart;
 use homeo_build::Compiled;
@@ -21,7 +22,6 @@ use homeo_plan::Broken;
 use homeo_syntax::{Memory, Prints};
 use std::alloc::Global;
 use std::marker::Model;
-use std::mem;
 
 /// What a call comes to at its site.
 #[derive(Drop)]
@@ -36,7 +36,7 @@ pub enum Ran {
 #[derive(Drop)]
 pub struct BareSite {
     own: OwnRound,
-    deltas: Database,
+    deltas: OwnDeltas,
     scratch: Scratch,
 }
 
@@ -52,9 +52,9 @@ impl Model for BareSite {
 
     ghost coded = { Prim.hlevel (codes, workload.the_row.coded) };
 
-    ghost view = { λ s. record { work = s.own.work; state = with_deltas s.own s.deltas.items } };
+    ghost view = { λ s. record { work = s.own.work; state = with_deltas s.own s.deltas } };
 
-    ghost invariant = { λ s. IsBare s.own s.deltas.items };
+    ghost invariant = { λ s. IsBare s.own s.deltas };
 }
 
 impl BareSite {
@@ -101,7 +101,7 @@ impl BareSite {
             Some(_) => Ok(None),
             None => Ok(Some(BareSite {
                 own,
-                deltas,
+                deltas: OwnDeltas::new(alloc, deltas),
                 scratch,
             })),
         }
@@ -135,7 +135,7 @@ impl BareSite {
         ensures deltas { result.now.items ≡ self.now.state.deltas }
         ensures count { length result.now.items ≡ length self.now.state.base }
     {
-        &self.deltas
+        self.deltas.list()
     }
 
     /// Lends the workload with what is fixed for all its rounds.
@@ -159,18 +159,38 @@ impl BareSite {
         ensures work { self.new.work ≡ self.old.work }
         ensures unchanged { OnErr result (self.new ≡ self.old) }
     {
+        self.prepare(alloc, call)?;
+        self.step(alloc, call)
+    }
+
+    /// Makes the effect of a call's L form, where the site ran that form before in the round.
+    fn prepare(&mut self, alloc: Global, call: CallId) -> Result<(), Memory>
+        requires { IsCallAt (plain_workload self.old.work) self.old.state.number call }
+        ensures { self.new ≡ self.old }
+    {
+        self.own.prepare(alloc, call)
+    }
+
+    /// The same as `run`, where effects stay what they are.
+    fn step(&mut self, alloc: Global, call: CallId) -> Result<Ran, Memory>
+        requires { IsCallAt (plain_workload self.old.work) self.old.state.number call }
+        ensures ran { IfOk result (IsRan (plain_workload self.old.work) self.old.state call) }
+        ensures state { IfOk result (λ r. self.new.state ≡ after_ran (plain_workload self.old.work) self.old.state call r) }
+        ensures work { self.new.work ≡ self.old.work }
+        ensures unchanged { OnErr result (self.new ≡ self.old) }
+    {
+        let copy = self.deltas.copy(alloc)?;
         let LocalStep {
             deltas,
             written,
             prints,
         } = self
             .own
-            .step(alloc, call, self.deltas.as_slice(), &mut self.scratch)?;
+            .step(alloc, call, &self.deltas, copy, &mut self.scratch)?;
         match self.own.failure(written.as_slice(), deltas.as_slice()) {
             Some(broken) => Ok(Ran::Breaks(broken)),
             None => {
-                let before = mem::replace(&mut self.deltas, deltas);
-                self.scratch.take_back(before);
+                self.deltas.go_on(deltas, written.as_slice());
                 Ok(Ran::Kept(prints))
             }
         }
@@ -187,6 +207,6 @@ impl BareSite {
             scratch: _,
         } = start;
         self.own = own;
-        self.deltas = deltas;
+        self.deltas.renew(deltas);
     }
 }

@@ -4,8 +4,10 @@
 
 mod attempts;
 mod bare;
+mod effects;
 pub mod laws;
 mod lists;
+mod own_deltas;
 mod own_round;
 mod own_treaty;
 mod planner;

@@ -1,9 +1,10 @@
 //! What a site keeps of a round besides its deltas.
 
-ghost use Rattle.std.specs.Prelude.{◌≡◌, ◌<◌, ◌≤◌, ◌+ℤ◌, ℕ, false, length, IfOk};
+ghost use Rattle.std.specs.Prelude.{◌≡◌, ◌<◌, ◌≤◌, ◌+ℤ◌, ℕ, false, length, IfOk, IfSome};
 ghost use Rattle.homeo_syntax.specs.SourceView.{plain_workload};
 ghost use Rattle.homeo_meaning.specs.Acceptance.{IsAccepted};
 ghost use Rattle.homeo_meaning.specs.Bounds.{AllWithin, IsWithin};
+ghost use Rattle.homeo_meaning.specs.Ground.{grounds};
 ghost use Rattle.homeo_meaning.specs.Schema.{schema_of};
 ghost use Rattle.homeo_meaning.specs.Serial.{values_of};
 ghost use Rattle.homeo_plan.specs.Planned.{sites_of, policy};
@@ -13,13 +14,17 @@ ghost use Rattle.homeo_build.specs.Plan.{IsObjectPlan};
 ghost use Rattle.homeo_history.specs.Legal.{IsCallAt};
 ghost use Rattle.homeo_history.specs.Replayed.{finding_at};
 ghost use Rattle.homeo_site.specs.SiteState.{step_prints, step_deltas, step_finding};
+ghost use Rattle.homeo_site.specs.inner.Effects.{IsEffectAt};
 ghost use Rattle.homeo_site.specs.inner.Ready.{IsReady, IsAfterStep};
 ghost use Rattle.homeo_site.specs.SiteView.{with_deltas};
 
+use crate::effects::{Effects, step_by};
+use crate::own_deltas::OwnDeltas;
 use crate::own_treaty::first_failure;
 use homeo_build::Compiled;
+use homeo_linear::{Effect, Follower};
 use homeo_local::{LocalStep, Scratch, local_step_in};
-use homeo_meaning::CallId;
+use homeo_meaning::{CallId, Database};
 use homeo_outline::ObjectPlan;
 use homeo_plan::Broken;
 use homeo_syntax::Memory;
@@ -34,14 +39,14 @@ pub(crate) struct OwnRound {
     plan: Arc<ObjectPlan, Global>,
     site: u32,
     round: u64,
+    effects: Effects,
 }
 
 impl Model for OwnRound {
     ghost use Rattle.std.specs.Coded.{codes};
     ghost use Rattle.homeo_syntax.specs.contracts.workload.Workload as workload;
-    ghost use Rattle.homeo_syntax.specs.SourceView.{plain_workload};
     ghost use Rattle.homeo_site.specs.SiteView.{StartValue};
-    ghost use Rattle.homeo_site.specs.inner.OwnRound.{IsOwnRound};
+    ghost use Rattle.homeo_site.specs.inner.OwnRound.{KeepsRound};
 
     ghost Value = { StartValue };
 
@@ -54,12 +59,18 @@ impl Model for OwnRound {
       base = r.plan.value.base.items;
     } };
 
-    ghost invariant = { λ r. IsOwnRound (plain_workload r.compiled.value) r.plan.value r.site };
+    ghost invariant = { λ r. KeepsRound (record {
+      work = r.compiled.value;
+      number = r.site;
+      round = r.round;
+      base = r.plan.value.base.items;
+    }) r.plan.value r.effects };
 }
 
 impl OwnRound {
     /// A site's part of the round that this plan is of. It takes no memory but the shares of workload and plan.
     pub(crate) fn new(
+        alloc: Global,
         compiled: &Arc<Compiled, Global>,
         plan: &Arc<ObjectPlan, Global>,
         site: u32,
@@ -82,6 +93,7 @@ impl OwnRound {
             plan: Arc::try_clone(plan)?,
             site,
             round,
+            effects: Effects::new(alloc),
         })
     }
 
@@ -112,21 +124,72 @@ impl OwnRound {
         &self.plan
     }
 
-    /// The local step of a call of one of the site's clients, from these deltas of the site: its L form is run on base plus deltas,
-    /// with the lists of an earlier step.
+    /// Makes the effect of a call's L form, where the site ran that form before in the round.
+    pub(crate) fn prepare(&mut self, alloc: Global, call: CallId) -> Result<(), Memory>
+        requires { IsCallAt (plain_workload self.old.work) self.old.number call }
+        ensures { self.new ≡ self.old }
+    {
+        let place = self.compiled.place(call) as usize;
+        let places = self.compiled.calls().len();
+        if self.effects.is_due(place, places)? {
+            let effect = self.effect(alloc, place)?;
+            self.effects.keep(place, effect);
+        }
+        Ok(())
+    }
+
+    /// The effect of the form at a place, if it has one.
+    fn effect(&self, alloc: Global, place: usize) -> Result<Option<Effect>, Memory>
+        requires { place < length (grounds (plain_workload self.now.work)) }
+        ensures { IfOk result (λ o. IfSome o (IsEffectAt self.now place)) }
+    {
+        let form = self.compiled.form(place);
+        let mut follower = Follower::new(alloc, &self.plan.base);
+        follower.effect(alloc, form)
+    }
+
+    /// The local step of a call of one of the site's clients, from these deltas of the site, of which it takes a copy: by the effect of
+    /// its L form, where that was made, and else the form is run.
     pub(crate) fn step(
         &self,
         alloc: Global,
         call: CallId,
-        deltas: &[i64],
+        before: &OwnDeltas,
+        deltas: Database,
         scratch: &mut Scratch,
     ) -> Result<LocalStep, Memory>
         requires call { IsCallAt (plain_workload self.now.work) self.now.number call }
-        requires ready { IsReady (plain_workload self.now.work) (with_deltas self.now deltas.now) }
-        ensures prints { IfOk result (λ s. s.prints.items ≡ step_prints (plain_workload self.now.work) (with_deltas self.now deltas.now) call) }
-        ensures deltas { IfOk result (λ s. s.deltas.items ≡ step_deltas (plain_workload self.now.work) (with_deltas self.now deltas.now) call) }
+        requires ready { IsReady (plain_workload self.now.work) (with_deltas self.now deltas.items) }
+        requires copy { deltas.items ≡ before.now }
+        ensures prints { IfOk result (λ s. s.prints.items ≡ step_prints (plain_workload self.now.work) (with_deltas self.now deltas.items) call) }
+        ensures deltas { IfOk result (λ s. s.deltas.items ≡ step_deltas (plain_workload self.now.work) (with_deltas self.now deltas.items) call) }
         ensures written { IfOk result (λ s. (n : ℕ) → has n s.written.items ≡ false →
-            values_of s.deltas.items n ≡ values_of deltas.now n) }
+            values_of s.deltas.items n ≡ values_of deltas.items n) }
+    {
+        let place = self.compiled.place(call) as usize;
+        match self.effects.at(place) {
+            Some(effect) => {
+                let base = self.plan.base.as_slice();
+                step_by(alloc, effect, base, before.list().as_slice(), deltas)
+            }
+            None => self.run(alloc, call, deltas, scratch),
+        }
+    }
+
+    /// The same, where the L form of the call is run on base plus deltas, with the lists of an earlier step.
+    fn run(
+        &self,
+        alloc: Global,
+        call: CallId,
+        deltas: Database,
+        scratch: &mut Scratch,
+    ) -> Result<LocalStep, Memory>
+        requires call { IsCallAt (plain_workload self.now.work) self.now.number call }
+        requires ready { IsReady (plain_workload self.now.work) (with_deltas self.now deltas.items) }
+        ensures prints { IfOk result (λ s. s.prints.items ≡ step_prints (plain_workload self.now.work) (with_deltas self.now deltas.items) call) }
+        ensures deltas { IfOk result (λ s. s.deltas.items ≡ step_deltas (plain_workload self.now.work) (with_deltas self.now deltas.items) call) }
+        ensures written { IfOk result (λ s. (n : ℕ) → has n s.written.items ≡ false →
+            values_of s.deltas.items n ≡ values_of deltas.items n) }
     {
         let place = self.compiled.place(call) as usize;
         let form = self.compiled.form(place);

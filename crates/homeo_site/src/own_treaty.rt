@@ -26,8 +26,8 @@ fn earlier(found: Option<Broken>, next: Option<Broken>) -> Option<Broken>
     ensures { result ≡ earlier clause_number found next }
 {
     match (found, next) {
-        (None, _) => next,
-        (Some(_), None) => found,
+        (_, None) => found,
+        (None, Some(_)) => next,
         (Some(a), Some(b)) => {
             if b.clause < a.clause {
                 Some(b)

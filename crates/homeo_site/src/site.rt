@@ -1,6 +1,6 @@
 //! Sites.
 
-ghost use Rattle.std.specs.Prelude.{◌≡◌, ◌<◌, ◌≤◌, ◌-◌, All, length, pos, IfOk, OnOk, slice_index_or};
+ghost use Rattle.std.specs.Prelude.{◌≡◌, ◌<◌, ◌≤◌, ◌-◌, [], All, length, pos, IfOk, OnOk, slice_index_or};
 ghost use Rattle.homeo_syntax.specs.SourceView.{plain_workload};
 ghost use Rattle.homeo_build.specs.Plan.{IsObjectPlan};
 ghost use Rattle.homeo_history.specs.HistoryView.{plain_segment};
@@ -10,11 +10,12 @@ ghost use Rattle.homeo_site.specs.SiteState.{SiteHolds, after_local, begun};
 
 use crate::attempts::{Change, Outcome, Room};
 use crate::lists::{copy_to_all, empty_copies};
+use crate::own_deltas::OwnDeltas;
 use crate::own_round::OwnRound;
 use crate::start::SiteStart;
 use homeo_history::{Entry, Segment};
 use homeo_local::{LocalStep, Scratch};
-use homeo_meaning::{CallId, Database};
+use homeo_meaning::CallId;
 use homeo_outline::ObjectPlan;
 use homeo_syntax::{List, Memory, Prints};
 use std::alloc::Global;
@@ -27,7 +28,7 @@ use std::mem;
 #[derive(Drop)]
 pub struct Site {
     own: OwnRound,
-    deltas: Database,
+    deltas: OwnDeltas,
     segment: Segment,
     scratch: Scratch,
 }
@@ -44,11 +45,11 @@ impl Model for Site {
 
     ghost view = { λ s. record {
       work = s.own.work;
-      state = state_in s.own s.deltas.items s.segment;
+      state = state_in s.own s.deltas s.segment;
       spare = s.segment.entries.spare;
     } };
 
-    ghost invariant = { λ s. IsSite s.own s.deltas.items s.segment };
+    ghost invariant = { λ s. IsSite s.own s.deltas s.segment };
 }
 
 impl Site {
@@ -96,14 +97,14 @@ impl Site {
         requires { object < length self.now.state.deltas }
         ensures { result ≡ slice_index_or self.now.state.deltas object (pos 0) }
     {
-        self.deltas.as_slice()[object as usize]
+        self.deltas()[object as usize]
     }
 
     /// Lends the site's deltas, one for each object.
     pub fn deltas(&self) -> &[i64]
         ensures { result.now ≡ self.now.state.deltas }
     {
-        self.deltas.as_slice()
+        self.deltas.list().as_slice()
     }
 
     /// Lends the segment: the entries of the calls that the site ran in this round, in their order.
@@ -133,8 +134,8 @@ impl Site {
             scratch: _,
         } = start;
         self.own = own;
-        self.deltas = deltas;
-        mem::replace(&mut self.segment, segment)
+        self.deltas.renew(deltas);
+        renew_segment(&mut self.segment, segment)
     }
 
     /// Finds the local step of a call on the site's present state, and takes room for so many copies of its prints: with that, an attempt
@@ -156,13 +157,40 @@ impl Site {
         ensures copies { IfOk result (λ r. All (IsEmptyCopy (plain_workload self.old.work) self.old.state call) r.1.items) }
         ensures spare { OnOk result (1 ≤ self.new.spare) }
     {
+        self.prepare(alloc, call)?;
+        self.take_room(alloc, call, copies)
+    }
+
+    /// Makes the effect of a call's L form, where the site ran that form before in the round.
+    fn prepare(&mut self, alloc: Global, call: CallId) -> Result<(), Memory>
+        requires { IsCallAt (plain_workload self.old.work) self.old.state.number call }
+        ensures { self.new ≡ self.old }
+    {
+        self.own.prepare(alloc, call)
+    }
+
+    /// The same as `room`, where effects stay what they are.
+    fn take_room(
+        &mut self,
+        alloc: Global,
+        call: CallId,
+        copies: u32,
+    ) -> Result<(Room, List<Prints>), Memory>
+        requires { IsCallAt (plain_workload self.old.work) self.old.state.number call }
+        ensures state { self.new ≡ record self.old { spare = self.new.spare } }
+        ensures room { IfOk result (λ r. IsRoom (plain_workload self.old.work) self.old.state call r.0) }
+        ensures count { IfOk result (λ r. length r.1.items ≡ copies) }
+        ensures copies { IfOk result (λ r. All (IsEmptyCopy (plain_workload self.old.work) self.old.state call) r.1.items) }
+        ensures spare { OnOk result (1 ≤ self.new.spare) }
+    {
+        let copy = self.deltas.copy(alloc)?;
         let LocalStep {
             deltas,
             written,
             prints,
         } = self
             .own
-            .step(alloc, call, self.deltas.as_slice(), &mut self.scratch)?;
+            .step(alloc, call, &self.deltas, copy, &mut self.scratch)?;
         let lists = empty_copies(alloc, copies, prints.as_slice().len() as u64)?;
         self.segment.entries.reserve(1)?;
         let room = Room {
@@ -203,6 +231,7 @@ impl Site {
                 Outcome::Keeps(Change {
                     call,
                     deltas: List::from_vec(deltas),
+                    written,
                     prints,
                 })
             }
@@ -240,10 +269,25 @@ impl Site {
         let Change {
             call,
             deltas,
+            written,
             prints,
         } = change;
-        let before = mem::replace(&mut self.deltas, deltas);
-        self.scratch.take_back(before);
+        self.deltas.go_on(deltas, written.as_slice());
         let _ = self.segment.entries.push(Entry { call, prints });
     }
+}
+
+/// Puts the segment of a start in the place of another, and gives that. One without entries stays, with its room, and gives the start's.
+fn renew_segment(own: &mut Segment, start: Segment) -> Segment
+    requires { start.entries ≡ record { items = []; spare = 0 } }
+    ensures own { own.new ≡ start }
+    ensures segment { plain_segment result ≡ plain_segment own.old }
+{
+    let ran = mem::replace(own, start);
+    if !ran.entries.as_slice().is_empty() {
+        return ran;
+    }
+    let room = ran.entries.into_vec();
+    let entries = List::from_vec(room);
+    mem::replace(own, Segment { entries })
 }

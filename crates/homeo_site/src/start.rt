@@ -6,11 +6,11 @@ ghost use Rattle.homeo_plan.specs.Planned.{sites_of, policy};
 ghost use Rattle.homeo_outline.specs.ObjectPlan.{config_in};
 ghost use Rattle.homeo_build.specs.Plan.{IsObjectPlan};
 
+use crate::own_deltas::OwnDeltas;
 use crate::own_round::OwnRound;
 use homeo_build::Compiled;
 use homeo_history::Segment;
 use homeo_local::Scratch;
-use homeo_meaning::Database;
 use homeo_outline::ObjectPlan;
 use homeo_syntax::{List, Memory};
 use std::alloc::Global;
@@ -21,7 +21,7 @@ use std::sync::Arc;
 #[derive(Drop)]
 pub struct SiteStart {
     pub(crate) own: OwnRound,
-    pub(crate) deltas: Database,
+    pub(crate) deltas: OwnDeltas,
     pub(crate) segment: Segment,
     pub(crate) scratch: Scratch,
 }
@@ -38,7 +38,7 @@ impl Model for SiteStart {
 
     ghost view = { λ s. s.own };
 
-    ghost invariant = { λ s. IsStart s.own s.deltas.items s.segment };
+    ghost invariant = { λ s. IsStart s.own s.deltas s.segment };
 }
 
 impl SiteStart {
@@ -70,11 +70,11 @@ impl SiteStart {
     {
         // its rules hold
         let _workload = compiled.workload().workload();
-        let own = OwnRound::new(compiled, plan, site, round)?;
+        let own = OwnRound::new(alloc, compiled, plan, site, round)?;
         let deltas = vec![in alloc; 0; plan.base.as_slice().len()]?;
         Ok(SiteStart {
             own,
-            deltas: List::from_vec(deltas),
+            deltas: OwnDeltas::new(alloc, List::from_vec(deltas)),
             segment: Segment {
                 entries: List::new(alloc),
             },

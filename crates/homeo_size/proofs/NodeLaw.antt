@@ -13,11 +13,10 @@ use Rattle.homeo_meaning.specs.Context.{Spot, Slot, Context, spot, cell, field_c
 use Rattle.homeo_meaning.specs.Aborts.{holds_abort, hold_abort}
 use Rattle.homeo_meaning.specs.LForm as form
 use Rattle.homeo_meaning.specs.LForm.{Lifted, Made, both, one, in_front, equal, read, fresh, name_of, read_chain, read_slot, literal_of, indexed_by, write_chain, write_at, write_by, visits, counted, Target, all_within, field_writes, fill_chain, lift, lift_all, lift_test, lift_cond, lift_values}
+use Rattle.homeo_lform.proofs.Written.{name_literal}
+use Rattle.homeo_size.specs.inner.Counted.{missing, missing_at, literal_in}
 use Rattle.homeo_size.specs.inner.Key.{definitions}
 use Rattle.homeo_size.specs.inner.Nodes.{few, index_nodes, visit_nodes, nodes, all_nodes, test_nodes, tests_nodes, slot_nodes, write_nodes, values_nodes, command_nodes, commands_nodes}
-use Rattle.homeo_size.specs.inner.Sizing.{Setting, missing_at, literal_in}
-use Rattle.homeo_size.specs.inner.Tables.{setting_for}
-use Rattle.homeo_size.proofs.LiftedPhrases.{literal_is}
 
 -- ---- the nodes of an L form
 abbrev mutual
@@ -81,6 +80,32 @@ Has x of n = n ≤ of_commands x.before + of x.phrase
 from_none : {m n : ℕ} → m ≤ 0 + n → m ≤ n
 from_none h = omega (arith, h)
 
+-- ---- literals
+slot_literal : (f : Spot) (o : Option Slot) → literal_of (read_slot f o) ≡ missing o
+unfolding definitions meaning_definitions
+slot_literal f (Some slot) = refl
+slot_literal f None = refl
+
+indexed_literal : (o : Option ℤ) (all : List Slot) (f : Spot) (x : Lifted L.Expr) → literal_of (indexed_by o all f x).phrase ≡ missing_at o all
+unfolding definitions meaning_definitions
+indexed_literal (Some v) all f x = slot_literal f (slot_at v all)
+indexed_literal None all f x = refl
+
+literal_is : (w : Context) (e : Expr) (n : ℕ) → literal_of (lift w e n).phrase ≡ literal_in w e
+unfolding definitions meaning_definitions
+literal_is w (Literal v) n = refl
+literal_is w (Name x) n = name_literal (w.arguments x.name) x.name
+literal_is w (Read x) n = refl
+literal_is w (Sum es) n = refl
+literal_is w (Product es) n = refl
+literal_is w (Neg e) n = refl
+literal_is w (Field q e f) n =
+    indexed_literal (literal_of (lift w e n).phrase) (slots w q.name) (spot (fields w q.name) f.name) (lift w e n)
+    ∙ ap (λ o. missing_at o (slots w q.name)) (literal_is w e n)
+literal_is w (Row r f) n = refl
+literal_is w (Count r q b) n = refl
+literal_is w (Total r f q b) n = refl
+
 -- ---- a field of the slot that an index names
 read_chain_has : (f : Spot) (e : L.Expr) (t : ℕ) (slot : Slot) (more : List Slot) → length (slot ∷ more) + of_expr e ≤ of_command (read_chain f e t (slot ∷ more))
 unfolding meaning_definitions
@@ -139,17 +164,17 @@ visit_le all n m h =
     let product = mul-le-mul_left (length all) fewer in
     few_le (1 + length all * few (1 + n)) (1 + m) (omega (arith, product, h))
 
--- ---- phrases: x has the slots and arguments of the context
-module _ (x : Setting) where
+-- ---- phrases: where the context has the slots and arguments of x
+module _ (x : Context) where
   pub record Same (w : Context) : Type 0 where
-    pub slots' : (q : ℕ) → x.slots q ≡ slots w q
+    pub slots' : (q : ℕ) → slots x q ≡ slots w q
     pub arguments' : (n : ℕ) → x.arguments n ≡ w.arguments n
 
   bound_same : (w : Context) (r : ℕ) (slot : Slot) → Same w → Same (bind w r slot)
   unfolding meaning_definitions
   bound_same w r slot h = record { slots' = h.slots'; arguments' = h.arguments' }
 
-  literals_same : (w : Context) (h : Same w) (e : Expr) → literal_in x e ≡ literal_in (setting_for 0 w) e
+  literals_same : (w : Context) (h : Same w) (e : Expr) → literal_in x e ≡ literal_in w e
   unfolding definitions
   literals_same w h (Literal v) = refl
   literals_same w h (Name t) = h.arguments' t.name
@@ -163,7 +188,7 @@ module _ (x : Setting) where
   literals_same w h (Total r f q c) = refl
 
   literal_same : (w : Context) (h : Same w) (e : Expr) (n : ℕ) → literal_of (lift w e n).phrase ≡ literal_in x e
-  literal_same w h e n = literal_is 0 w e n ∙ sym (literals_same w h e)
+  literal_same w h e n = literal_is w e n ∙ sym (literals_same w h e)
 
   name_has : (o : Option ℤ) (t : ℕ) → 1 ≤ of_expr (name_of o t)
   unfolding meaning_definitions
@@ -316,7 +341,7 @@ module _ (x : Setting) where
       omega (arith, k, chain, same, least, e)
 
   -- ---- loops
-  loop_has : (w : Context) (h : Same w) (r q : ℕ) (c : Cond) (ends : Bool) (body : Slot → ℕ → Made) (m n k : ℕ) → k ≤ tests_nodes x c 0 + m → ((slot : Slot) (i : ℕ) → m ≤ of_command (body slot i).command) → visit_nodes (x.slots q) k ≤ of_command (form.loop w r q c ends body n).command
+  loop_has : (w : Context) (h : Same w) (r q : ℕ) (c : Cond) (ends : Bool) (body : Slot → ℕ → Made) (m n k : ℕ) → k ≤ tests_nodes x c 0 + m → ((slot : Slot) (i : ℕ) → m ≤ of_command (body slot i).command) → visit_nodes (slots x q) k ≤ of_command (form.loop w r q c ends body n).command
   unfolding definitions meaning_definitions
   loop_has w h r q c ends body m n k le has =
       let v = visits_have false ends (λ slot. lift_cond (bind w r slot) c) body k (λ slot i j. one_visit slot i j) (slots w q) n in

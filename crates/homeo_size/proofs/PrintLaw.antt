@@ -15,7 +15,6 @@ use Rattle.homeo_meaning.specs.LForm.{Lifted, Made, both, one, in_front, equal, 
 use Rattle.homeo_meaning.specs.LowSizes.{prints_in, prints_in_all}
 use Rattle.homeo_size.specs.inner.Key.{definitions}
 use Rattle.homeo_size.specs.inner.Prints.{print_cap, prints, all_prints}
-use Rattle.homeo_size.specs.inner.Sizing.{Setting}
 use Rattle.homeo_size.proofs.Caps.{cap_sum, cap_product}
 
 both_print : (cs ds : L.Commands) → prints_in_all (both cs ds) ≡ prints_in_all cs + prints_in_all ds
@@ -168,7 +167,7 @@ loop_quiet w r q c body n h =
     visits_print false false (λ slot. lift_cond (bind w r slot) c) body 0 (λ slot m. cond_quiet (bind w r slot) c m) h (slots w q) n ∙ mul-zero (length (slots w q))
 
 -- ---- all commands, where x has the slots of the context
-module _ (x : Setting) where
+module _ (x : Context) where
   -- the prints without a cap, which are the same whatever the row and the number of the next temporary
   abbrev mutual
     exact : Command → ℕ
@@ -180,7 +179,7 @@ module _ (x : Setting) where
     exact (Block cs) = exact_all cs
     exact (SetField q i f e) = 0
     exact (SetRow r f e) = 0
-    exact (Foreach r q c cs) = length (x.slots q.name) * exact_all cs
+    exact (Foreach r q c cs) = length (slots x q.name) * exact_all cs
     exact (Insert q fs t) = 0
     exact (Delete r q c) = 0
     exact (Update r q c f e) = 0
@@ -191,7 +190,7 @@ module _ (x : Setting) where
     exact_all (MoreCommand c cs) = exact c + exact_all cs
 
   abbrev pub HasSlots : Context → Type 0
-  HasSlots w = (q : ℕ) → x.slots q ≡ slots w q
+  HasSlots w = (q : ℕ) → slots x q ≡ slots w q
 
   mutual
     unfolding meaning_definitions
@@ -242,8 +241,8 @@ module _ (x : Setting) where
     command_capped (SetField q i f e) = refl
     command_capped (SetRow r f e) = refl
     command_capped (Foreach r q c cs) =
-        ap (λ k. print_cap (length (x.slots q.name) * k)) (commands_capped cs 0 ∙ ap print_cap (zero-add (exact_all cs)))
-        ∙ capped_product (length (x.slots q.name)) (exact_all cs)
+        ap (λ k. print_cap (length (slots x q.name) * k)) (commands_capped cs 0 ∙ ap print_cap (zero-add (exact_all cs)))
+        ∙ capped_product (length (slots x q.name)) (exact_all cs)
     command_capped (Insert q fs t) = refl
     command_capped (Delete r q c) = refl
     command_capped (Update r q c f e) = refl

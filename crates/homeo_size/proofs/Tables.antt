@@ -1,26 +1,46 @@
 -- What a change of the code's tables is as a change of the names' extents.
 use Rattle.std.proofs.Common.{◌≡◌, ℕ, zero, suc, ◌<◌, ◌≤◌, ◌==◌, cond, List, [], ◌∷◌, ◌++◌, map, take, drop, length, get_or, refl, sym, ap, ◌∙◌, arith, append-nil, take_all, drop_of_length-le}
+use Rattle.homeo_syntax.specs.declared.low.Temp.TheVariants.{Named, Fresh}
+use Rattle.homeo_meaning.specs.Key.{definitions as meaning_definitions}
+use Rattle.homeo_meaning.specs.LowMeaning.{Location, TempAt, BaseAt, DeltaAt, put}
 use Rattle.homeo_size.specs.inner.Key.{definitions}
-use Rattle.homeo_size.specs.inner.Parts.{single, unwritten}
 use Rattle.homeo_size.specs.inner.Sizing.{Sizes}
-use Rattle.homeo_size.specs.inner.Store.{Store, with_temp, with_object, with_entry, kept_in, set_entry, taken_back, back_to}
+use Rattle.homeo_size.specs.inner.Store.{Store, with_entry, kept_in, set_entry, taken_back, back_to}
+use Rattle.homeo_size.specs.inner.Tables.{sizes_with}
 use Rattle.homeo_size.specs.declared.extent.Extent.{Extent}
 use Rattle.homeo_size.specs.declared.extents.Entry.{Entry}
 use Rattle.homeo_size.specs.declared.extents.Kept.{Kept}
 
--- the extents by the lists of the tables
-abbrev pub sizes_with : ℕ → List Extent → List Extent → Sizes
-unfolding definitions
-sizes_with sites objects temps = record { objects = λ k. get_or objects k (unwritten sites 1); temps = λ n. get_or temps n single }
+module _ (objects : List Extent) (absent : Extent) (named fresh : ℕ → Extent) (e : Extent) where
+  pub sizes_named : (new : ℕ → Extent) (n : ℕ) → ((m : ℕ) → new m ≡ cond (n == m) e (named m)) → sizes_with objects absent new fresh ≡ put (sizes_with objects absent named fresh) (TempAt (Named n)) e
+  unfolding definitions meaning_definitions
+  sizes_named new n h = λ i p. at p i
+    where
+      at : (p : Location) → sizes_with objects absent new fresh p ≡ put (sizes_with objects absent named fresh) (TempAt (Named n)) e p
+      at (TempAt (Named m)) = h m
+      at (TempAt (Fresh m)) = refl
+      at (BaseAt k) = refl
+      at (DeltaAt k j) = refl
 
-pub sizes_temp : (sites : ℕ) (objects temps new : List Extent) (n : ℕ) (e : Extent) → ((m : ℕ) → get_or new m single ≡ cond (n == m) e (get_or temps m single)) → sizes_with sites objects new ≡ with_temp (sizes_with sites objects temps) n e
-unfolding definitions
-sizes_temp sites objects temps new n e h = λ i. record { objects = λ k. get_or objects k (unwritten sites 1); temps = λ m. h m i }
+  pub sizes_fresh : (new : ℕ → Extent) (n : ℕ) → ((m : ℕ) → new m ≡ cond (n == m) e (fresh m)) → sizes_with objects absent named new ≡ put (sizes_with objects absent named fresh) (TempAt (Fresh n)) e
+  unfolding definitions meaning_definitions
+  sizes_fresh new n h = λ i p. at p i
+    where
+      at : (p : Location) → sizes_with objects absent named new p ≡ put (sizes_with objects absent named fresh) (TempAt (Fresh n)) e p
+      at (TempAt (Named m)) = refl
+      at (TempAt (Fresh m)) = h m
+      at (BaseAt k) = refl
+      at (DeltaAt k j) = refl
 
-pub sizes_object : (sites : ℕ) (objects temps new : List Extent) (place : ℕ) (e absent : Extent) → absent ≡ unwritten sites 1 → ((m : ℕ) → get_or new m absent ≡ cond (place == m) e (get_or objects m absent)) → sizes_with sites new temps ≡ with_object (sizes_with sites objects temps) place e
-unfolding definitions
-sizes_object sites objects temps new place e absent a h =
-    λ i. record { objects = λ m. (ap (get_or new m) (sym a) ∙ h m ∙ ap (λ d. cond (place == m) e (get_or objects m d)) a) i; temps = λ m. get_or temps m single }
+  pub sizes_object : (new : List Extent) (place : ℕ) → ((m : ℕ) → get_or new m absent ≡ cond (place == m) e (get_or objects m absent)) → sizes_with new absent named fresh ≡ put (sizes_with objects absent named fresh) (BaseAt place) e
+  unfolding definitions meaning_definitions
+  sizes_object new place h = λ i p. at p i
+    where
+      at : (p : Location) → sizes_with new absent named fresh p ≡ put (sizes_with objects absent named fresh) (BaseAt place) e p
+      at (TempAt (Named m)) = refl
+      at (TempAt (Fresh m)) = refl
+      at (BaseAt k) = h k
+      at (DeltaAt k j) = refl
 
 abbrev pub store_with : Sizes → List Kept → Store
 store_with s l = record { sizes = s; log = l }

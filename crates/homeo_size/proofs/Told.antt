@@ -1,23 +1,27 @@
 -- The pass over an L form tells its extents, its weights and its rows.
-use Rattle.std.proofs.Common.{◌≡◌, ℕ, ◌+◌, ◌*◌, max, Bool, true, false, cond, refl, sym, ap, ap₂, ◌∙◌, arith, add-zero, zero-add}
+use Rattle.std.proofs.Common.{◌≡◌, ℕ, ◌+◌, ◌*◌, max, Bool, true, false, cond, List, [], ◌∷◌, refl, sym, ap, ap₂, ◌∙◌, length, subst, arith, add-zero, zero-add}
 use Rattle.std.proofs.Math.Nat.{mul_assoc, one-mul, mul-one}
 use Rattle.std.proofs.lemmas.Int.{clamps}
 use Rattle.homeo_syntax.specs.Low.{Expr, Exprs, Literal, OfTemp, Read, Sum, Product, Neg, NoExpr, MoreExpr, Test, Cond, True, Not, Comparison, NoTest, MoreTest, Command, Commands, Skip, Assign, Write, Print, Seq, If, NoCommand, MoreCommand}
 use Rattle.homeo_meaning.specs.Key.{definitions as meaning_definitions}
 use Rattle.homeo_meaning.specs.LowMeaning.{Location, TempAt, location_of, put, same_location}
 use Rattle.homeo_meaning.specs.LowSizes as low
-use Rattle.homeo_meaning.specs.LowSizes.{extent, extent_all, test_extent, tests_extent, cond_extent, after, after_all, command_extent, commands_extent, rows, rows_all}
+use Rattle.homeo_meaning.specs.LowSizes.{extent, extent_all, test_extent, tests_extent, cond_extent, command_extent, commands_extent, rows, rows_all}
 use Rattle.homeo_meaning.specs.LowWeights as heavy
 use Rattle.homeo_meaning.specs.LowWeights.{weight, sum_weight, product_weight}
 use Rattle.homeo_size.specs.inner.Key.{definitions}
 use Rattle.homeo_size.specs.inner.Numbers.{cap, weight_cap}
-use Rattle.homeo_size.specs.inner.Parts.{beside, plus, times, around, summed, greater, written, valued, writing, chosen, followed, none}
+use Rattle.homeo_size.specs.inner.Measuring.{after, after_all, measured, all_measured}
+use Rattle.homeo_size.specs.inner.Parts.{beside, plus, times, around, summed, greater, written, empty, valued, writing, chosen, followed}
+use Rattle.homeo_size.specs.inner.Sizing.{Sizes, sized, sum_sized, product_sized, test_sized, tests_sized, cond_sized}
+use Rattle.homeo_size.specs.inner.Store.{Store, location_at, set_entry, back_to, raised, left_by}
 use Rattle.homeo_size.specs.declared.extent.Extent.{Extent}
-use Rattle.homeo_size.specs.declared.measures.Before.{Before}
+use Rattle.homeo_size.specs.declared.extents.Entry.{Entry}
+use Rattle.homeo_size.specs.declared.extents.Entry.TheVariants.{Temp, Name}
 use Rattle.homeo_size.specs.declared.measures.Measure.{Measure}
+use Rattle.homeo_size.proofs.Branching.{Keeps, Rises, sets, sets_all, keeps_self, keeps_then, set_keeps, back_is, rises_self, rises_then, set_rises, both_sizes, both_keep, both_rise}
 use Rattle.homeo_size.proofs.Caps.{cap_sum, cap_max, cap_more, cap_plus, cap_product, max_zero, zero_max, plus_assoc, max_assoc}
 use Rattle.homeo_size.proofs.Heaviest.{heaviest_test, heaviest_tests, heaviest, heaviest_all}
-use Rattle.homeo_size.proofs.Low.{Extents, low_sized, low_sum, low_product, low_test, low_tests, low_cond, low_after, low_after_all, low_measured, low_measured_all}
 
 abbrev pub told : low.Extent → ℕ → Extent
 told e w = record { size = cap e.size; depth = cap e.depth; weight = weight_cap w }
@@ -109,10 +113,10 @@ told_measure_same : (a b : low.Extent) (k l m n : ℕ) → a ≡ b → k ≡ l �
 told_measure_same a b k l m n p q r = λ i. told_measure (p i) (q i) (r i)
 
 -- ---- the extents v are those of e and w
-abbrev pub Tells : Extents → (Location → low.Extent) → (Location → ℕ) → Type 0
+abbrev pub Tells : Sizes → (Location → low.Extent) → (Location → ℕ) → Type 0
 Tells v e w = (p : Location) → v p ≡ told (e p) (w p)
 
-put_told : (v : Extents) (e : Location → low.Extent) (w : Location → ℕ) (p : Location) (x : Extent) (a : low.Extent) (m : ℕ) → Tells v e w → x ≡ told a m → Tells (put v p x) (put e p a) (put w p m)
+put_told : (v : Sizes) (e : Location → low.Extent) (w : Location → ℕ) (p : Location) (x : Extent) (a : low.Extent) (m : ℕ) → Tells v e w → x ≡ told a m → Tells (put v p x) (put e p a) (put w p m)
 unfolding meaning_definitions
 put_told v e w p x a m h k q = go (same_location p q)
   where
@@ -123,7 +127,7 @@ put_told v e w p x a m h k q = go (same_location p q)
 mutual
   unfolding definitions meaning_definitions
 
-  pub expr_told : (x : Expr) (v : Extents) (e : Location → low.Extent) (w : Location → ℕ) → Tells v e w → low_sized x v ≡ told (extent x e) (weight x w)
+  pub expr_told : (x : Expr) (v : Sizes) (e : Location → low.Extent) (w : Location → ℕ) → Tells v e w → sized x v ≡ told (extent x e) (weight x w)
   expr_told (Literal n) v e w h = refl
   expr_told (OfTemp t) v e w h = h (TempAt t)
   expr_told (Read o) v e w h = h (location_of o)
@@ -135,24 +139,24 @@ mutual
       ∙ told_around (extent_all es e) (product_weight es w)
   expr_told (Neg x) v e w h = ap around (expr_told x v e w h) ∙ told_around (extent x e) (weight x w)
 
-  sum_told : (es : Exprs) (v : Extents) (e : Location → low.Extent) (w : Location → ℕ) → Tells v e w → (a : low.Extent) (m : ℕ) → low_sum es v (told a m) ≡ told (low.beside a (extent_all es e)) (m + sum_weight es w)
+  sum_told : (es : Exprs) (v : Sizes) (e : Location → low.Extent) (w : Location → ℕ) → Tells v e w → (a : low.Extent) (m : ℕ) → sum_sized es v (told a m) ≡ told (low.beside a (extent_all es e)) (m + sum_weight es w)
   sum_told NoExpr v e w h a m = told_same a (low.beside a (low.flat 0)) m (m + 0) (sym (beside_nothing a)) (sym (add-zero m))
   sum_told (MoreExpr x es) v e w h a m =
-      ap (low_sum es v) (ap (plus (told a m)) (expr_told x v e w h) ∙ told_plus a (extent x e) m (weight x w))
+      ap (sum_sized es v) (ap (plus (told a m)) (expr_told x v e w h) ∙ told_plus a (extent x e) m (weight x w))
       ∙ sum_told es v e w h (low.beside a (extent x e)) (m + weight x w)
       ∙ told_same (low.beside (low.beside a (extent x e)) (extent_all es e)) (low.beside a (low.beside (extent x e) (extent_all es e))) ((m + weight x w) + sum_weight es w) (m + (weight x w + sum_weight es w)) (beside_assoc a (extent x e) (extent_all es e)) (plus_assoc m (weight x w) (sum_weight es w))
 
-  product_told : (es : Exprs) (v : Extents) (e : Location → low.Extent) (w : Location → ℕ) → Tells v e w → (a : low.Extent) (m : ℕ) → low_product es v (told a m) ≡ told (low.beside a (extent_all es e)) (m * product_weight es w)
+  product_told : (es : Exprs) (v : Sizes) (e : Location → low.Extent) (w : Location → ℕ) → Tells v e w → (a : low.Extent) (m : ℕ) → product_sized es v (told a m) ≡ told (low.beside a (extent_all es e)) (m * product_weight es w)
   product_told NoExpr v e w h a m = told_same a (low.beside a (low.flat 0)) m (m * 1) (sym (beside_nothing a)) (sym (mul-one m))
   product_told (MoreExpr x es) v e w h a m =
-      ap (low_product es v) (ap (times (told a m)) (expr_told x v e w h) ∙ told_times a (extent x e) m (weight x w))
+      ap (product_sized es v) (ap (times (told a m)) (expr_told x v e w h) ∙ told_times a (extent x e) m (weight x w))
       ∙ product_told es v e w h (low.beside a (extent x e)) (m * weight x w)
       ∙ told_same (low.beside (low.beside a (extent x e)) (extent_all es e)) (low.beside a (low.beside (extent x e) (extent_all es e))) ((m * weight x w) * product_weight es w) (m * (weight x w * product_weight es w)) (beside_assoc a (extent x e) (extent_all es e)) (mul_assoc m (weight x w) (product_weight es w))
 
 mutual
   unfolding definitions meaning_definitions
 
-  test_told : (t : Test) (v : Extents) (e : Location → low.Extent) (w : Location → ℕ) → Tells v e w → low_test t v ≡ told (test_extent t e) (heaviest_test t w)
+  test_told : (t : Test) (v : Sizes) (e : Location → low.Extent) (w : Location → ℕ) → Tells v e w → test_sized t v ≡ told (test_extent t e) (heaviest_test t w)
   test_told True v e w h = refl
   test_told (Not c) v e w h =
       ap around (ap around (tests_told c v e w h (low.flat 0) 0 ∙ told_same (low.beside (low.flat 0) (tests_extent c e)) (tests_extent c e) (max 0 (heaviest_tests c w)) (heaviest_tests c w) (nothing_beside (tests_extent c e)) (zero_max (heaviest_tests c w))) ∙ told_around (tests_extent c e) (heaviest_tests c w))
@@ -161,59 +165,87 @@ mutual
       ap around (ap₂ beside (expr_told a v e w h) (expr_told b v e w h) ∙ told_beside (extent a e) (extent b e) (weight a w) (weight b w))
       ∙ told_around (low.beside (extent a e) (extent b e)) (max (weight a w) (weight b w))
 
-  tests_told : (c : Cond) (v : Extents) (e : Location → low.Extent) (w : Location → ℕ) → Tells v e w → (a : low.Extent) (m : ℕ) → low_tests c v (told a m) ≡ told (low.beside a (tests_extent c e)) (max m (heaviest_tests c w))
+  tests_told : (c : Cond) (v : Sizes) (e : Location → low.Extent) (w : Location → ℕ) → Tells v e w → (a : low.Extent) (m : ℕ) → tests_sized c v (told a m) ≡ told (low.beside a (tests_extent c e)) (max m (heaviest_tests c w))
   tests_told NoTest v e w h a m = told_same a (low.beside a (low.flat 0)) m (max m 0) (sym (beside_nothing a)) (sym (max_zero m))
   tests_told (MoreTest t c) v e w h a m =
-      ap (low_tests c v) (ap (beside (told a m)) (test_told t v e w h) ∙ told_beside a (test_extent t e) m (heaviest_test t w))
+      ap (tests_sized c v) (ap (beside (told a m)) (test_told t v e w h) ∙ told_beside a (test_extent t e) m (heaviest_test t w))
       ∙ tests_told c v e w h (low.beside a (test_extent t e)) (max m (heaviest_test t w))
       ∙ told_same (low.beside (low.beside a (test_extent t e)) (tests_extent c e)) (low.beside a (low.beside (test_extent t e) (tests_extent c e))) (max (max m (heaviest_test t w)) (heaviest_tests c w)) (max m (max (heaviest_test t w) (heaviest_tests c w))) (beside_assoc a (test_extent t e) (tests_extent c e)) (max_assoc m (heaviest_test t w) (heaviest_tests c w))
 
-cond_told : (c : Cond) (v : Extents) (e : Location → low.Extent) (w : Location → ℕ) → Tells v e w → low_cond c v ≡ told (cond_extent c e) (heaviest_tests c w)
+cond_told : (c : Cond) (v : Sizes) (e : Location → low.Extent) (w : Location → ℕ) → Tells v e w → cond_sized c v ≡ told (cond_extent c e) (heaviest_tests c w)
 unfolding definitions meaning_definitions
 cond_told c v e w h =
     ap around (tests_told c v e w h (low.flat 0) 0 ∙ told_same (low.beside (low.flat 0) (tests_extent c e)) (tests_extent c e) (max 0 (heaviest_tests c w)) (heaviest_tests c w) (nothing_beside (tests_extent c e)) (zero_max (heaviest_tests c w)))
     ∙ told_around (tests_extent c e) (heaviest_tests c w)
 
+-- ---- commands: what the store holds behind one is told, what was before can be taken back, and what isn't set rises
+record After (y z : Store) (es : List Entry) (e : Location → low.Extent) (w : Location → ℕ) : Type 0 where
+  tells : Tells z.sizes e w
+  keeps : Keeps y z
+  rises : Rises y z es
+
+set_told : (z : Store) (e : Location → low.Extent) (w : Location → ℕ) (k : Entry) (x : Extent) (a : low.Extent) (m : ℕ) → Tells z.sizes e w → x ≡ told a m → After z (set_entry z k x) (k ∷ []) (put e (location_at k) a) (put w (location_at k) m)
+unfolding definitions
+set_told z e w k x a m h t = record { tells = put_told z.sizes e w (location_at k) x a m h t; keeps = set_keeps z k x; rises = set_rises z k x }
+
+same_told : (z : Store) (e : Location → low.Extent) (w : Location → ℕ) → Tells z.sizes e w → After z z [] e w
+same_told z e w h = record { tells = h; keeps = keeps_self z; rises = rises_self z [] }
+
 module _ (sites : ℕ) where
   mutual
     unfolding definitions meaning_definitions
 
-    after_told : (c : Command) (v : Extents) (e : Location → low.Extent) (w : Location → ℕ) → Tells v e w → Tells (low_after sites c v) (after sites c e) (heavy.after c w)
-    after_told Skip v e w h = h
-    after_told (Assign t x) v e w h = put_told v e w (TempAt t) (low_sized x v) (extent x e) (weight x w) h (expr_told x v e w h)
-    after_told (Write o x) v e w h =
-        put_told v e w (location_of o) (written sites (low_sized x v)) (low.written sites (extent x e)) (weight x w) h (ap (written sites) (expr_told x v e w h) ∙ told_written sites (extent x e) (weight x w))
-    after_told (Print x) v e w h = h
-    after_told (Seq cs) v e w h = all_after_told cs v e w h
-    after_told (If b c d) v e w h =
-        λ p. ap₂ greater (after_told c v e w h p) (after_told d v e w h p) ∙ told_greater (after sites c e p) (after sites d e p) (heavy.after c w p) (heavy.after d w p)
+    after_told : (c : Command) (z : Store) (e : Location → low.Extent) (w : Location → ℕ) → Tells z.sizes e w → After z (after sites c z) (sets c) (low.after sites c e) (heavy.after c w)
+    after_told Skip z e w h = same_told z e w h
+    after_told (Assign t x) z e w h = set_told z e w (Temp t) (sized x z.sizes) (extent x e) (weight x w) h (expr_told x z.sizes e w h)
+    after_told (Write o x) z e w h =
+        set_told z e w (Name o) (written sites (sized x z.sizes)) (low.written sites (extent x e)) (weight x w) h (ap (written sites) (expr_told x z.sizes e w h) ∙ told_written sites (extent x e) (weight x w))
+    after_told (Print x) z e w h = same_told z e w h
+    after_told (Seq cs) z e w h = all_after_told cs z e w h
+    after_told (If b c d) z e w h =
+        let y : Store = after sites c z in
+        let u : Store = after sites d z in
+        let one : After z y (sets c) (low.after sites c e) (heavy.after c w) = after_told c z e w h in
+        let two : After z u (sets d) (low.after sites d e) (heavy.after d w) = after_told d z e w h in
+        let is : raised (left_by (length z.log) y d) u ≡ after sites (If b c d) z = ap (λ x. raised (left_by (length z.log) y d) (after sites d x)) (sym (back_is z y one.keeps)) in
+        subst (λ x. After z x (sets c) (low.after sites (If b c d) e) (heavy.after (If b c d) w)) is (record {
+          tells = λ p. both_sizes z y u d one.keeps two.keeps two.rises p ∙ ap₂ greater (one.tells p) (two.tells p) ∙ told_greater (low.after sites c e p) (low.after sites d e p) (heavy.after c w p) (heavy.after d w p);
+          keeps = both_keep z y u d one.keeps two.keeps two.rises;
+          rises = both_rise z y u d one.keeps two.keeps two.rises (sets c) one.rises;
+        })
 
-    all_after_told : (cs : Commands) (v : Extents) (e : Location → low.Extent) (w : Location → ℕ) → Tells v e w → Tells (low_after_all sites cs v) (after_all sites cs e) (heavy.after_all cs w)
-    all_after_told NoCommand v e w h = h
-    all_after_told (MoreCommand c cs) v e w h =
-        all_after_told cs (low_after sites c v) (after sites c e) (heavy.after c w) (after_told c v e w h)
+    all_after_told : (cs : Commands) (z : Store) (e : Location → low.Extent) (w : Location → ℕ) → Tells z.sizes e w → After z (after_all sites cs z) (sets_all cs) (low.after_all sites cs e) (heavy.after_all cs w)
+    all_after_told NoCommand z e w h = same_told z e w h
+    all_after_told (MoreCommand c cs) z e w h =
+        let y : Store = after sites c z in
+        let u : Store = after_all sites cs y in
+        let one : After z y (sets c) (low.after sites c e) (heavy.after c w) = after_told c z e w h in
+        let more : After y u (sets_all cs) (low.after_all sites cs (low.after sites c e)) (heavy.after_all cs (heavy.after c w)) = all_after_told cs y (low.after sites c e) (heavy.after c w) one.tells in
+        record { tells = more.tells; keeps = keeps_then z y u one.keeps more.keeps; rises = rises_then z y u (sets c) (sets_all cs) one.rises more.rises }
 
   mutual
     unfolding definitions meaning_definitions
 
-    pub measured_told : (c : Command) (v : Extents) (e : Location → low.Extent) (w : Location → ℕ) → Tells v e w → low_measured sites c v ≡ told_measure (command_extent sites c e) (heaviest c w) (rows c)
-    measured_told Skip v e w h = refl
-    measured_told (Assign t x) v e w h = ap valued (expr_told x v e w h) ∙ told_valued (extent x e) (weight x w)
-    measured_told (Write o x) v e w h = ap (writing sites) (expr_told x v e w h) ∙ told_writing sites (extent x e) (weight x w)
-    measured_told (Print x) v e w h = ap valued (expr_told x v e w h) ∙ told_valued (extent x e) (weight x w)
-    measured_told (Seq cs) v e w h =
-        all_measured_told cs v e w h none (low.flat 1) 0 1 refl
+    pub measured_told : (c : Command) (z : Store) (e : Location → low.Extent) (w : Location → ℕ) → Tells z.sizes e w → measured sites c z ≡ told_measure (command_extent sites c e) (heaviest c w) (rows c)
+    measured_told Skip z e w h = refl
+    measured_told (Assign t x) z e w h = ap valued (expr_told x z.sizes e w h) ∙ told_valued (extent x e) (weight x w)
+    measured_told (Write o x) z e w h = ap (writing sites) (expr_told x z.sizes e w h) ∙ told_writing sites (extent x e) (weight x w)
+    measured_told (Print x) z e w h = ap valued (expr_told x z.sizes e w h) ∙ told_valued (extent x e) (weight x w)
+    measured_told (Seq cs) z e w h =
+        all_measured_told cs z e w h empty (low.flat 1) 0 1 refl
         ∙ told_measure_same (low.beside (low.flat 1) (commands_extent sites cs e)) (low.beside (low.flat 1) (commands_extent sites cs e)) (max 0 (heaviest_all cs w)) (heaviest_all cs w) (1 * rows_all cs) (rows_all cs) refl (zero_max (heaviest_all cs w)) (one-mul (rows_all cs))
-    measured_told (If b c d) v e w h =
-        (λ i. chosen (cond_told b v e w h i) (measured_told c v e w h i) (measured_told d v e w h i))
+    measured_told (If b c d) z e w h =
+        let y : Store = after sites c z in
+        let back : back_to (length z.log) y ≡ z = back_is z y (after_told c z e w h).keeps in
+        (λ i. chosen (cond_told b z.sizes e w h i) (measured_told c z e w h i) ((ap (measured sites d) back ∙ measured_told d z e w h) i))
         ∙ told_chosen (cond_extent b e) (command_extent sites c e) (command_extent sites d e) (heaviest_tests b w) (heaviest c w) (heaviest d w) (rows c) (rows d)
 
-    all_measured_told : (cs : Commands) (v : Extents) (e : Location → low.Extent) (w : Location → ℕ) → Tells v e w → (b : Before) (a : low.Extent) (m n : ℕ) → b.all ≡ told_measure a m n → (low_measured_all sites cs v b).all ≡ told_measure (low.beside a (commands_extent sites cs e)) (max m (heaviest_all cs w)) (n * rows_all cs)
-    all_measured_told NoCommand v e w h b a m n k =
+    all_measured_told : (cs : Commands) (z : Store) (e : Location → low.Extent) (w : Location → ℕ) → Tells z.sizes e w → (b : Measure) (a : low.Extent) (m n : ℕ) → b ≡ told_measure a m n → all_measured sites cs z b ≡ told_measure (low.beside a (commands_extent sites cs e)) (max m (heaviest_all cs w)) (n * rows_all cs)
+    all_measured_told NoCommand z e w h b a m n k =
         k ∙ told_measure_same a (low.beside a (low.flat 0)) m (max m 0) n (n * 1) (sym (beside_nothing a)) (sym (max_zero m)) (sym (mul-one n))
-    all_measured_told (MoreCommand c cs) v e w h b a m n k =
+    all_measured_told (MoreCommand c cs) z e w h b a m n k =
         let x : low.Extent = command_extent sites c e in
-        let rest : low.Extent = commands_extent sites cs (after sites c e) in
+        let rest : low.Extent = commands_extent sites cs (low.after sites c e) in
         let more : ℕ = heaviest_all cs (heavy.after c w) in
-        all_measured_told cs (low_after sites c v) (after sites c e) (heavy.after c w) (after_told c v e w h) _ (low.beside a x) (max m (heaviest c w)) (n * rows c) (ap₂ followed k (measured_told c v e w h) ∙ told_followed a x m (heaviest c w) n (rows c))
+        all_measured_told cs (after sites c z) (low.after sites c e) (heavy.after c w) (after_told c z e w h).tells _ (low.beside a x) (max m (heaviest c w)) (n * rows c) (ap₂ followed k (measured_told c z e w h) ∙ told_followed a x m (heaviest c w) n (rows c))
         ∙ told_measure_same (low.beside (low.beside a x) rest) (low.beside a (low.beside x rest)) (max (max m (heaviest c w)) more) (max m (max (heaviest c w) more)) ((n * rows c) * rows_all cs) (n * (rows c * rows_all cs)) (beside_assoc a x rest) (max_assoc m (heaviest c w) more) (mul_assoc n (rows c) (rows_all cs))

@@ -1,5 +1,5 @@
--- How large the L form of a call is, each number told up to its cap.
-use Rattle.std.specs.Prelude.{◌≡◌, ◌<◌, ℕ, nat_le, min, Option, Some, None}
+-- How large an L form is, each number told up to its cap.
+use Rattle.std.specs.Prelude.{◌≡◌, ℕ, nat_le, min}
 use Rattle.homeo_syntax.specs.Low as L
 use Rattle.homeo_meaning.specs.LowSizes.{call_extent, rows}
 use Rattle.homeo_meaning.specs.LowWeights.{first_weights, is_light}
@@ -12,8 +12,3 @@ pub record IsMeasure (x : Schema) (sites : ℕ) (form : L.Command) (m : Measure)
   pub depth : m.depth ≡ min 8000001 (call_extent sites form).depth
   pub light : nat_le m.weight 1000000000000000000 ≡ is_light 1000000000000000000 form (first_weights x)
   pub rows : m.rows ≡ min 8000001 (rows form)
-
--- measured, or larger than all calls may be together
-abbrev pub IsMeasured : Schema → ℕ → L.Command → Option Measure → Type 0
-IsMeasured x sites form (Some m) = IsMeasure x sites form m
-IsMeasured x sites form None = 2000000 < (call_extent sites form).size

@@ -1,3 +1,4 @@
+pub mod Counted
 pub mod Key
 pub mod Laid
 pub mod Measuring
@@ -8,4 +9,3 @@ pub mod Prints
 pub mod Sizing
 pub mod Store
 pub mod Tables
-pub mod Writing

@@ -1,13 +1,11 @@
 //! Sizes, depths and weights of phrases.
 
-ghost use Rattle.std.specs.Prelude.{◌≡◌, suc, pos};
+ghost use Rattle.std.specs.Prelude.{◌≡◌};
 ghost use Rattle.homeo_meaning.specs.LowWeights.{number_weight};
 ghost use Rattle.homeo_size.specs.inner.Numbers.{weight_cap};
-ghost use Rattle.homeo_size.specs.inner.Parts.{literal, beside, plus, times, around, summed, compared, greater, unwritten, written, within_tests, is_equal};
-ghost use Rattle.homeo_context.specs.Slots.{plain_spot};
+ghost use Rattle.homeo_size.specs.inner.Parts.{literal, beside, plus, times, around, summed, compared, greater, no_more, unwritten, written};
 
 use crate::numbers::{capped, weight_capped};
-use homeo_context::Spot;
 
 /// The size, the depth and the weight of a phrase, each told up to its cap. A test or a condition has the greatest
 /// weight of its expressions.
@@ -62,30 +60,6 @@ pub(crate) fn literal(n: i64) -> Extent
         size: 1,
         depth: 1,
         weight: number_weight(n),
-    }
-}
-
-/// The extent of a literal that is not negative.
-#[tactic(auto, unfolding(crate::specs::inner::Key::definitions, homeo_meaning::specs::Key::definitions))]
-pub(crate) fn natural(n: u64) -> Extent
-    ensures { result ≡ literal (pos n) }
-{
-    Extent {
-        size: 1,
-        depth: 1,
-        weight: weight_capped(n.max(1)),
-    }
-}
-
-/// The extent of the literal after a number that is not negative.
-#[tactic(auto, unfolding(crate::specs::inner::Key::definitions, homeo_meaning::specs::Key::definitions))]
-pub(crate) fn successor(n: u64) -> Extent
-    ensures { result ≡ literal (pos (suc n)) }
-{
-    Extent {
-        size: 1,
-        depth: 1,
-        weight: weight_capped(n.saturating_add(1)),
     }
 }
 
@@ -167,6 +141,14 @@ pub(crate) fn greater(a: Extent, b: Extent) -> Extent
     }
 }
 
+/// Whether the first is in no respect more than the second.
+#[tactic(auto, unfolding(crate::specs::inner::Key::definitions))]
+pub(crate) fn no_more(a: Extent, b: Extent) -> bool
+    ensures { result ≡ no_more a b }
+{
+    a.size <= b.size && a.depth <= b.depth && a.weight <= b.weight
+}
+
 /// The extent of an object that nothing is written to: the sum of its base and its sites' deltas.
 #[tactic(auto, unfolding(crate::specs::inner::Key::definitions))]
 pub(crate) fn unwritten(sites: u64, weight: u64) -> Extent
@@ -190,22 +172,4 @@ pub(crate) fn written(sites: u64, value: Extent) -> Extent
         depth: capped(value.depth.saturating_add(3)),
         weight: value.weight,
     }
-}
-
-/// The extent of tests, with those that a value is within the bounds.
-#[tactic(auto, unfolding(crate::specs::inner::Key::definitions, homeo_meaning::specs::Key::definitions))]
-pub(crate) fn within_tests(bounds: Spot, value: Extent, tests: Extent) -> Extent
-    ensures { result ≡ within_tests (plain_spot bounds) value tests }
-{
-    let above = compared(literal(bounds.lo), value);
-    let below = compared(value, literal(bounds.hi));
-    beside(beside(tests, above), below)
-}
-
-/// The extent of the condition that a value is this number.
-#[tactic(auto, unfolding(crate::specs::inner::Key::definitions))]
-pub(crate) fn is_equal(value: Extent, number: u64) -> Extent
-    ensures { result ≡ is_equal value (pos number) }
-{
-    around(beside(NOTHING, compared(value, natural(number))))
 }

@@ -1,22 +1,21 @@
 //! The extents of names in tables, with a log of their changes.
 
 ghost use Rattle.std.specs.Prelude.{◌≡◌, map, IfOk, OnOk};
-ghost use Rattle.homeo_size.specs.inner.Store.{entry_sized, with_entry, kept_in, set_entry, raise_entry, back_to, since, restored, raised, touched, closed, reopened, higher, both_branches};
-ghost use Rattle.homeo_size.specs.inner.Measuring.{guard_after};
+ghost use Rattle.homeo_syntax.specs.LowView.{low_commands, plain_lcommand};
+ghost use Rattle.homeo_meaning.specs.LowMeaning.{TempAt, BaseAt, location_of, put};
+ghost use Rattle.homeo_size.specs.inner.Store.{entry_sized, with_entry, kept_in, set_entry, back_to, since, raise_entry, raised, kept_sets, kept_all, left_by};
 ghost use Rattle.homeo_size.specs.inner.Tables.{sizes_in, store_in};
 
-use crate::extent::{Extent, SINGLE, greater, unwritten};
-use homeo_meaning::padded::put;
-use homeo_syntax::Memory;
+use crate::extent::{Extent, SINGLE, greater, no_more};
+use homeo_meaning::{Window, padded};
+use homeo_syntax::{LCommand, Memory, SplitName, Temp};
 use std::alloc::Global;
 
 /// An entry of the tables.
 #[derive(Clone, Copy)]
 pub(crate) enum Entry {
-    /// An object, by its number.
-    Object(u128),
-    /// A temporary, by the number of its name.
-    Temp(u32),
+    Temp(Temp),
+    Name(SplitName),
 }
 
 /// An entry of the tables, and its extent at some time.
@@ -26,69 +25,95 @@ pub(crate) struct Kept {
     pub(crate) extent: Extent,
 }
 
-/// The extents of the objects, by number, and of the temporaries, by the numbers of their names: past the ends stands
-/// what nothing changed. The log has what each changed entry was before, in the order of the changes.
+/// The extents of the objects, of the temporaries of the text, and of the others, each by its number: elsewhere stands what
+/// nothing changed. The log has what each changed entry was before, in the order of the changes.
 #[derive(Drop)]
 pub(crate) struct Extents {
     pub(crate) objects: Vec<Extent>,
-    pub(crate) temps: Vec<Extent>,
+    pub(crate) named: Window<Extent>,
+    pub(crate) fresh: Window<Extent>,
     pub(crate) log: Vec<Kept>,
-    pub(crate) sites: u64,
+    /// The extent of an object past the last.
+    pub(crate) absent: Extent,
 }
 
 impl Extents {
     #[tactic(auto, unfolding(crate::specs::inner::Key::definitions))]
-    pub(crate) fn entry(&self, entry: Entry) -> Extent
+    fn entry(&self, entry: Entry) -> Extent
         ensures { result ≡ entry_sized (sizes_in self.now) entry }
     {
         match entry {
-            Entry::Object(place) => self.object(place),
-            Entry::Temp(name) => self.temp(name),
+            Entry::Temp(t) => self.temp(t),
+            Entry::Name(x) => self.name(x),
         }
     }
 
     #[tactic(auto, unfolding(crate::specs::inner::Key::definitions))]
-    pub(crate) fn object(&self, place: u128) -> Extent
-        ensures { result ≡ (sizes_in self.now).objects place }
+    pub(crate) fn temp(&self, t: Temp) -> Extent
+        ensures { result ≡ sizes_in self.now (TempAt t) }
     {
-        if place < self.objects.len() as u128 {
-            self.objects[place as usize]
-        } else {
-            unwritten(self.sites, 1)
+        match t {
+            Temp::Named(name) => self.named.get(name as usize, SINGLE),
+            Temp::Fresh(number) => self.fresh.get(number as usize, SINGLE),
+        }
+    }
+
+    #[tactic(auto, unfolding(crate::specs::inner::Key::definitions, homeo_meaning::specs::Key::definitions))]
+    pub(crate) fn name(&self, x: SplitName) -> Extent
+        ensures { result ≡ sizes_in self.now (location_of x) }
+    {
+        match x {
+            SplitName::Whole(object) | SplitName::Base(object) => self.object(object),
+            SplitName::Delta { .. } => SINGLE,
         }
     }
 
     #[tactic(auto, unfolding(crate::specs::inner::Key::definitions))]
-    pub(crate) fn temp(&self, name: u32) -> Extent
-        ensures { result ≡ (sizes_in self.now).temps name }
+    fn object(&self, object: u32) -> Extent
+        ensures { result ≡ sizes_in self.now (BaseAt object) }
     {
-        homeo_meaning::padded::item_or(self.temps.as_slice(), name as usize, SINGLE)
+        padded::item_or(self.objects.as_slice(), object as usize, self.absent)
     }
 
     /// Changes an entry, and leaves the log as it is.
+    #[tactic(auto, unfolding(crate::specs::inner::Key::definitions))]
     fn put(&mut self, entry: Entry, extent: Extent) -> Result<(), Memory>
         ensures sizes { OnOk result (sizes_in self.new ≡ with_entry (sizes_in self.old) entry extent) }
         ensures log { self.new.log.items ≡ self.old.log.items }
     {
         match entry {
-            Entry::Object(place) => {
-                // No memory has a table of more places than this.
-                if place > u64::MAX as u128 {
-                    return Err(Memory);
-                }
-                put(
-                    &mut self.objects,
-                    place as usize,
-                    extent,
-                    unwritten(self.sites, 1),
-                )?;
-                Ok(())
-            }
-            Entry::Temp(name) => {
-                put(&mut self.temps, name as usize, extent, SINGLE)?;
-                Ok(())
-            }
+            Entry::Temp(t) => self.put_temp(t, extent),
+            Entry::Name(x) => self.put_name(x, extent),
         }
+    }
+
+    fn put_temp(&mut self, t: Temp, extent: Extent) -> Result<(), Memory>
+        ensures sizes { OnOk result (sizes_in self.new ≡ put (sizes_in self.old) (TempAt t) extent) }
+        ensures log { self.new.log.items ≡ self.old.log.items }
+    {
+        match t {
+            Temp::Named(name) => self.named.put(name as usize, extent, SINGLE),
+            Temp::Fresh(number) => self.fresh.put(number as usize, extent, SINGLE),
+        }
+    }
+
+    #[tactic(auto, unfolding(homeo_meaning::specs::Key::definitions))]
+    fn put_name(&mut self, x: SplitName, extent: Extent) -> Result<(), Memory>
+        ensures sizes { OnOk result (sizes_in self.new ≡ put (sizes_in self.old) (location_of x) extent) }
+        ensures log { self.new.log.items ≡ self.old.log.items }
+    {
+        match x {
+            SplitName::Whole(object) | SplitName::Base(object) => self.put_object(object, extent),
+            // (no call's form writes one)
+            SplitName::Delta { .. } => Err(Memory),
+        }
+    }
+
+    fn put_object(&mut self, object: u32, extent: Extent) -> Result<(), Memory>
+        ensures sizes { OnOk result (sizes_in self.new ≡ put (sizes_in self.old) (BaseAt object) extent) }
+        ensures log { self.new.log.items ≡ self.old.log.items }
+    {
+        padded::put(&mut self.objects, object as usize, extent, self.absent)
     }
 
     #[tactic(auto, unfolding(crate::specs::inner::Key::definitions))]
@@ -109,17 +134,8 @@ impl Extents {
         self.put(entry, extent)
     }
 
-    /// Makes an entry the greater of what it is and of this: what comes of it where a write may be refused.
-    #[tactic(auto, unfolding(crate::specs::inner::Key::definitions))]
-    pub(crate) fn raise(&mut self, entry: Entry, extent: Extent) -> Result<(), Memory>
-        ensures { OnOk result (store_in self.new ≡ raise_entry (store_in self.old) entry extent) }
-    {
-        let higher = greater(extent, self.entry(entry));
-        self.set(entry, higher)
-    }
-
     /// Takes all changes back that came after so many.
-    fn take_back(&mut self, start: usize) -> Result<(), Memory>
+    pub(crate) fn take_back(&mut self, start: usize) -> Result<(), Memory>
         ensures { OnOk result (store_in self.new ≡ back_to start (store_in self.old)) }
     {
         while self.log.len() > start {
@@ -143,18 +159,21 @@ impl Extents {
         Ok(changed)
     }
 
-    #[tactic(auto, using(crate::proofs::Along::changes))]
-    fn restore(&mut self, kept: &[Kept]) -> Result<(), Memory>
-        ensures { OnOk result (store_in self.new ≡ restored kept.now (store_in self.old)) }
+    /// Makes an entry the greater of what it is and of this. Where it stays what it is, nothing is logged.
+    #[tactic(auto, unfolding(crate::specs::inner::Key::definitions))]
+    fn raise(&mut self, entry: Entry, extent: Extent) -> Result<(), Memory>
+        ensures { OnOk result (store_in self.new ≡ raise_entry (store_in self.old) entry extent) }
     {
-        for k in kept {
-            self.set(k.entry, k.extent)?;
+        let now = self.entry(entry);
+        if no_more(extent, now) {
+            Ok(())
+        } else {
+            self.set(entry, greater(extent, now))
         }
-        Ok(())
     }
 
     #[tactic(auto, using(crate::proofs::Along::changes))]
-    fn raise_all(&mut self, kept: &[Kept]) -> Result<(), Memory>
+    pub(crate) fn raise_all(&mut self, kept: &[Kept]) -> Result<(), Memory>
         ensures { OnOk result (store_in self.new ≡ raised kept.now (store_in self.old)) }
     {
         for k in kept {
@@ -163,84 +182,57 @@ impl Extents {
         Ok(())
     }
 
-    /// Logs entries, and leaves them as they are.
-    #[tactic(auto, using(crate::proofs::Along::changes, crate::proofs::Along::store_sizes))]
-    fn touch(&mut self, kept: &[Kept]) -> Result<(), Memory>
-        ensures { OnOk result (store_in self.new ≡ touched kept.now (store_in self.old)) }
+    /// Keeps, as they are now, the entries that a command may leave less than they were: those that it sets, or more. Of an `if`
+    /// they are those of its first branch, so that a chain of many is not gone through at each of its `if`s.
+    #[cycle(sets)]
+    #[tactic(auto, using(homeo_syntax::proofs::LowViews::low_command_views, crate::proofs::Equations::sets))]
+    fn keep_sets(&self, c: &LCommand, kept: &mut Vec<Kept>) -> Result<(), Memory>
+        ensures { OnOk result (kept.new.items ≡ kept_sets (sizes_in self.now) (plain_lcommand c.now) kept.old.items) }
     {
-        for k in kept {
-            let now = self.entry(k.entry);
-            self.set(k.entry, now)?;
+        match c {
+            LCommand::Skip | LCommand::Print { .. } => Ok(()),
+            LCommand::Assign { target, value: _ } => {
+                kept.push(self.kept(Entry::Temp(*target)))?;
+                Ok(())
+            }
+            LCommand::Write { target, value: _ } => {
+                kept.push(self.kept(Entry::Name(*target)))?;
+                Ok(())
+            }
+            LCommand::Seq { commands } => self.keep_all(commands.as_slice(), kept),
+            LCommand::If {
+                test: _,
+                yes,
+                no: _,
+            } => self.keep_sets(yes, kept),
+        }
+    }
+
+    #[cycle(sets)]
+    #[tactic(auto, using(crate::proofs::Equations::set_lists, homeo_meaning::proofs::Steps::steps))]
+    fn keep_all(&self, cs: &[LCommand], kept: &mut Vec<Kept>) -> Result<(), Memory>
+        ensures { OnOk result (kept.new.items ≡
+            kept_all (sizes_in self.now) (low_commands (map plain_lcommand cs.now)) kept.old.items) }
+    {
+        for c in cs {
+            self.keep_sets(c, kept)?;
         }
         Ok(())
     }
 
-    /// Ends a branch beside one that changes nothing: of each entry the greater stays.
+    /// What a first branch, which began after so many changes, leaves of the entries that it changed, and of those that the
+    /// second may leave less than they were: of all others the second leaves the greater.
     #[tactic(auto, unfolding(crate::specs::inner::Key::definitions))]
-    pub(crate) fn close(&mut self, alloc: Global, start: usize) -> Result<(), Memory>
-        ensures { OnOk result (store_in self.new ≡ closed start (store_in self.old)) }
+    pub(crate) fn left(
+        &self,
+        alloc: Global,
+        start: usize,
+        second: &LCommand,
+    ) -> Result<Vec<Kept>, Memory>
+        ensures { IfOk result (λ left. left.items ≡ left_by start (store_in self.now) (plain_lcommand second.now)) }
     {
-        let changed = self.since(alloc, start)?;
-        self.take_back(start)?;
-        self.raise_all(changed.as_slice())
-    }
-
-    /// Ends a command that began there, guarded or not.
-    #[tactic(auto, unfolding(crate::specs::inner::Key::definitions))]
-    pub(crate) fn guard(&mut self, alloc: Global, guarded: bool, start: usize) -> Result<(), Memory>
-        ensures { OnOk result (store_in self.new ≡ guard_after guarded start (store_in self.old)) }
-    {
-        if guarded {
-            self.close(alloc, start)
-        } else {
-            Ok(())
-        }
-    }
-
-    /// Ends a first branch, and begins the second where the first began. Gives what the first changed.
-    #[tactic(auto, unfolding(crate::specs::inner::Key::definitions))]
-    pub(crate) fn reopen(&mut self, alloc: Global, start: usize) -> Result<Vec<Kept>, Memory>
-        ensures changed { IfOk result (λ changed. changed.items ≡ since start (store_in self.old)) }
-        ensures store { OnOk result (store_in self.new ≡ reopened start (store_in self.old)) }
-    {
-        let changed = self.since(alloc, start)?;
-        self.take_back(start)?;
-        self.touch(changed.as_slice())?;
-        Ok(changed)
-    }
-
-    #[tactic(auto, unfolding(crate::specs::inner::Key::definitions))]
-    fn higher(&self, kept: Kept) -> Kept
-        ensures { result ≡ higher (sizes_in self.now) kept }
-    {
-        Kept {
-            entry: kept.entry,
-            extent: greater(kept.extent, self.entry(kept.entry)),
-        }
-    }
-
-    /// The entries, each as it was kept or as it is now, whichever is more.
-    fn highest(&self, alloc: Global, kept: &[Kept]) -> Result<Vec<Kept>, Memory>
-        ensures { IfOk result (λ all. all.items ≡ map (higher (sizes_in self.now)) kept.now) }
-    {
-        let mut all = Vec::new(alloc);
-        for k in kept {
-            all.push(self.higher(*k))?;
-        }
-        Ok(all)
-    }
-
-    /// Ends a second branch: of each entry the greater of both branches stays. The log grows by no more than the changes
-    /// of both, so that branches within branches do not double it.
-    #[tactic(auto, unfolding(crate::specs::inner::Key::definitions))]
-    pub(crate) fn join(&mut self, alloc: Global, start: usize, first: &[Kept]) -> Result<(), Memory>
-        ensures { OnOk result (store_in self.new ≡ both_branches start first.now (store_in self.old)) }
-    {
-        let second = self.since(alloc, start)?;
-        self.take_back(start)?;
-        self.restore(first)?;
-        let both = self.highest(alloc, second.as_slice())?;
-        self.take_back(start)?;
-        self.restore(both.as_slice())
+        let mut left = self.since(alloc, start)?;
+        self.keep_sets(second, &mut left)?;
+        Ok(left)
     }
 }

@@ -128,7 +128,7 @@ impl Layout {
     }
 
     /// The declarations by their names.
-    pub(crate) fn declared(&self) -> &Declarations
+    pub fn declared(&self) -> &Declarations
         ensures { result.now.schema ≡ self.now }
     {
         &self.declared

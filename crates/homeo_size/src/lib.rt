@@ -1,25 +1,21 @@
-//! How large the L form of a call is, told without building it.
+//! How large the L form of a call is: measured where it was made, and told from below where it wasn't.
 #![tactic(auto)]
 
-mod call;
-mod chains;
 mod commands;
 mod extent;
 mod extents;
+mod form;
 mod frame;
 mod layout;
-mod loops;
 mod measures;
 mod nodes;
 mod numbers;
 mod phrases;
 mod prints;
-mod saved;
-mod slot;
-mod undoing;
 
-pub use call::measure;
+pub use form::measure;
 pub use layout::Layout;
 pub use measures::Measure;
+pub use nodes::is_too_large;
 pub use numbers::{BEYOND, TOO_HEAVY};
 pub use prints::{TOO_MANY_PRINTS, count_prints};

@@ -1,17 +1,21 @@
 //! How many nodes an L form has at least, told without visiting a slot: so a form that is far too large is known at once.
 
-ghost use Rattle.std.specs.Prelude.{◌≡◌, ◌+◌, map, option_map};
-ghost use Rattle.homeo_syntax.specs.SourceView.{exprs, tests, commands, plain_expr, plain_test, plain_cond, plain_field, plain_command};
+ghost use Rattle.std.specs.Prelude.{true, ◌≡◌, ◌+◌, ◌<◌, map, option_map, IfOk};
+ghost use Rattle.homeo_syntax.specs.SourceView.{exprs, tests, commands, plain_expr, plain_test, plain_cond, plain_field, plain_command, plain_transaction};
+ghost use Rattle.homeo_meaning.specs.LForm.{l_form};
+ghost use Rattle.homeo_meaning.specs.LowSizes.{call_extent};
 ghost use Rattle.homeo_size.specs.inner.Nodes.{few, index_nodes, visit_nodes, nodes, all_nodes, test_nodes, tests_nodes, slot_nodes, write_nodes, values_nodes, command_nodes, commands_nodes};
 ghost use Rattle.homeo_context.specs.Slots.{plain_slot, slots_of, IsCounted};
-ghost use Rattle.homeo_size.specs.inner.Tables.{setting};
+ghost use Rattle.homeo_size.specs.inner.Tables.{context_of};
 
 use crate::frame::Frame;
-use homeo_context::{Slot, Slots};
-use homeo_syntax::{Command, Cond, Expr, FieldValue, Test};
+use crate::layout::Layout;
+use homeo_context::{Slot, Slots, argument_values, bind};
+use homeo_syntax::{Command, Cond, Expr, FieldValue, Memory, Number, Test, Transaction};
+use std::alloc::Global;
 
 /// One more node than a call may have size: none is counted beyond.
-pub(crate) const TOO_MANY: u64 = 2_000_001;
+const TOO_MANY: u64 = 200_001;
 
 #[tactic(auto, unfolding(crate::specs::inner::Key::definitions))]
 fn few_together(a: u64, b: u64) -> u64
@@ -79,7 +83,7 @@ impl Frame<'_> {
     #[cycle(phrase_nodes)]
     #[tactic(auto, using(homeo_syntax::proofs::SourceViews::phrase_views, crate::proofs::NodeEquations::phrases))]
     fn nodes(&self, e: &Expr) -> u64
-        ensures { result ≡ nodes (setting self.now) (plain_expr e.now) }
+        ensures { result ≡ nodes (context_of self.now) (plain_expr e.now) }
     {
         match e {
             Expr::Literal(_) | Expr::Name(_) | Expr::Read(_) | Expr::Row { .. } => 1,
@@ -104,7 +108,7 @@ impl Frame<'_> {
     #[cycle(phrase_nodes)]
     #[tactic(auto, using(crate::proofs::NodeEquations::lists, homeo_meaning::proofs::Steps::steps))]
     fn all_nodes(&self, es: &[Expr]) -> u64
-        ensures { result ≡ all_nodes (setting self.now) (exprs (map plain_expr es.now)) 0 }
+        ensures { result ≡ all_nodes (context_of self.now) (exprs (map plain_expr es.now)) 0 }
     {
         let mut all = 0;
         for e in es {
@@ -116,7 +120,7 @@ impl Frame<'_> {
     #[cycle(phrase_nodes)]
     #[tactic(auto, using(homeo_syntax::proofs::SourceViews::phrase_views, crate::proofs::NodeEquations::phrases))]
     fn test_nodes(&self, t: &Test) -> u64
-        ensures { result ≡ test_nodes (setting self.now) (plain_test t.now) }
+        ensures { result ≡ test_nodes (context_of self.now) (plain_test t.now) }
     {
         match t {
             Test::True => 1,
@@ -130,7 +134,7 @@ impl Frame<'_> {
     #[cycle(phrase_nodes)]
     #[tactic(auto, using(crate::proofs::NodeEquations::lists, homeo_meaning::proofs::Steps::steps))]
     fn tests_nodes(&self, ts: &[Test]) -> u64
-        ensures { result ≡ tests_nodes (setting self.now) (tests (map plain_test ts.now)) 0 }
+        ensures { result ≡ tests_nodes (context_of self.now) (tests (map plain_test ts.now)) 0 }
     {
         let mut all = 0;
         for t in ts {
@@ -141,14 +145,14 @@ impl Frame<'_> {
 
     #[tactic(auto, using(homeo_syntax::proofs::SourceViews::phrase_views))]
     fn cond_nodes(&self, c: &Cond) -> u64
-        ensures { result ≡ tests_nodes (setting self.now) (plain_cond c.now) 0 }
+        ensures { result ≡ tests_nodes (context_of self.now) (plain_cond c.now) 0 }
     {
         self.tests_nodes(c.tests.as_slice())
     }
 
-    #[tactic(auto, using(crate::proofs::Along::items, crate::proofs::Along::values, crate::proofs::NodeEquations::lists))]
+    #[tactic(auto, using(crate::proofs::Along::items, crate::proofs::Along::plain_value, crate::proofs::NodeEquations::lists))]
     fn values_nodes(&self, fields: &[FieldValue], first: u64) -> u64
-        ensures { result ≡ values_nodes (setting self.now) (map plain_field fields.now) first }
+        ensures { result ≡ values_nodes (context_of self.now) (map plain_field fields.now) first }
     {
         let mut all = first;
         for field in fields {
@@ -160,15 +164,15 @@ impl Frame<'_> {
     #[cycle(command_nodes)]
     #[tactic(auto, using(homeo_syntax::proofs::SourceViews::command_views, crate::proofs::Along::lengths, crate::proofs::NodeEquations::steps))]
     fn command_nodes(&self, c: &Command) -> u64
-        ensures { result ≡ command_nodes (setting self.now) (plain_command c.now) }
+        ensures { result ≡ command_nodes (context_of self.now) (plain_command c.now) }
     {
         match c {
             Command::Skip => 1,
             Command::Abort => 2,
             Command::Assign { value, .. }
             | Command::Write { value, .. }
-            | Command::Print { value }
-            | Command::SetRow { value, .. } => few_together(1, self.nodes(value)),
+            | Command::Print { value } => few_together(1, self.nodes(value)),
+            Command::SetRow { value, .. } => few_together(1, self.nodes(value)),
             Command::If { test, yes, no } => {
                 let branches = few_together(self.command_nodes(yes), self.command_nodes(no));
                 few_together(self.cond_nodes(test), branches)
@@ -224,8 +228,8 @@ impl Frame<'_> {
     /// How many nodes the L forms of commands have at least, with those before.
     #[cycle(command_nodes)]
     #[tactic(auto, using(crate::proofs::NodeEquations::lists, homeo_meaning::proofs::Steps::steps))]
-    pub(crate) fn commands_nodes(&self, cs: &[Command], first: u64) -> u64
-        ensures { result ≡ commands_nodes (setting self.now) (commands (map plain_command cs.now)) first }
+    fn commands_nodes(&self, cs: &[Command], first: u64) -> u64
+        ensures { result ≡ commands_nodes (context_of self.now) (commands (map plain_command cs.now)) first }
     {
         let mut all = first;
         for c in cs {
@@ -233,4 +237,27 @@ impl Frame<'_> {
         }
         all
     }
+}
+
+/// Whether the L form of a call on so many sites is certainly larger than a call may be, which is 200,000: of a transaction of
+/// the workload that is laid out, with the arguments in the order of its parameters. It is told from the text alone, and no
+/// loop is followed.
+///
+/// # Errors
+///
+/// `Memory` where memory is wanting.
+pub fn is_too_large(
+    alloc: Global,
+    t: &Transaction,
+    args: &[Number],
+    layout: &Layout,
+    sites: u64,
+) -> Result<bool, Memory>
+    ensures { IfOk result (λ large. large ≡ true → 200000 < (call_extent sites (l_form layout.now
+        (map (λ p. p.name.name) t.now.params.items) (map (λ a. a.value) args.now) (plain_transaction t.now).body)).size) }
+{
+    let values = argument_values(alloc, args)?;
+    let arguments = bind(alloc, t.params.as_slice(), values.as_slice())?;
+    let frame = Frame::of_call(layout, arguments.as_slice());
+    Ok(frame.commands_nodes(t.body.as_slice(), 1) >= TOO_MANY)
 }

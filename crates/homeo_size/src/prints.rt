@@ -5,7 +5,7 @@ ghost use Rattle.homeo_syntax.specs.SourceView.{commands, plain_command, plain_t
 ghost use Rattle.homeo_meaning.specs.LForm.{l_form};
 ghost use Rattle.homeo_meaning.specs.LowSizes.{prints_in};
 ghost use Rattle.homeo_size.specs.inner.Prints.{print_cap, prints, all_prints};
-ghost use Rattle.homeo_size.specs.inner.Tables.{setting};
+ghost use Rattle.homeo_size.specs.inner.Tables.{context_of};
 
 use crate::frame::Frame;
 use crate::layout::Layout;
@@ -32,7 +32,7 @@ impl Frame<'_> {
     #[cycle(prints)]
     #[tactic(auto, using(homeo_syntax::proofs::SourceViews::command_views, crate::proofs::Along::lengths, crate::proofs::PrintEquations::steps))]
     fn prints(&self, c: &Command) -> u64
-        ensures { result ≡ prints (setting self.now) (plain_command c.now) }
+        ensures { result ≡ prints (context_of self.now) (plain_command c.now) }
     {
         match c {
             Command::Print { .. } => 1,
@@ -57,7 +57,7 @@ impl Frame<'_> {
     #[cycle(prints)]
     #[tactic(auto, using(crate::proofs::PrintEquations::lists, homeo_meaning::proofs::Steps::steps))]
     fn all_prints(&self, cs: &[Command]) -> u64
-        ensures { result ≡ all_prints (setting self.now) (commands (map plain_command cs.now)) 0 }
+        ensures { result ≡ all_prints (context_of self.now) (commands (map plain_command cs.now)) 0 }
     {
         let mut all = 0;
         for c in cs {
@@ -73,6 +73,6 @@ pub fn count_prints(t: &Transaction, layout: &Layout) -> u64
     ensures { (args : List ℤ) → result ≡ min 1000001
         (prints_in (l_form layout.now (map (λ p. p.name.name) t.now.params.items) args (plain_transaction t.now).body)) }
 {
-    let frame = Frame::of_call(layout, &[], 0);
+    let frame = Frame::of_call(layout, &[]);
     frame.all_prints(t.body.as_slice())
 }

@@ -9,7 +9,7 @@ use Rattle.homeo_syntax.specs.declared.low.Temp.TheVariants.{Named, Fresh}
 use Rattle.homeo_syntax.specs.declared.low.SplitName.TheVariants.{Base, Delta}
 use Rattle.homeo_meaning.specs.Key.{definitions}
 use Rattle.homeo_meaning.specs.LowMeaning.{State, Location, TempAt, BaseAt, DeltaAt, same_temp, put}
-use Rattle.homeo_meaning.specs.Serial.{values_of}
+use Rattle.homeo_meaning.specs.Windowed.{item_at}
 use Rattle.homeo_meaning.proofs.AbsentItems.{padded_set}
 use Rattle.homeo_split.specs.Key.{definitions as split_definitions}
 use Rattle.homeo_split.specs.States.{temps_of, state_with}
@@ -17,10 +17,10 @@ use Rattle.homeo_split.specs.declared.temporaries.Temporaries.{Temporaries}
 use Rattle.homeo_split.specs.Shape.{Shape, has_place}
 
 -- temporaries that differ from others by one are the others with that one set
-pub set_temps : (s z : Temporaries) {t w : Temp} → t ≡ w → (v : ℤ) → SFits w64 v → ((m : ℕ) → values_of z.named.items m ≡ cond (same_temp w (Named m)) (to_z w64 (of_z w64 v)) (values_of s.named.items m)) → ((m : ℕ) → values_of z.fresh.items m ≡ cond (same_temp w (Fresh m)) (to_z w64 (of_z w64 v)) (values_of s.fresh.items m)) → (u : Temp) → temps_of z u ≡ cond (same_temp t u) v (temps_of s u)
+pub set_temps : (s z : Temporaries) {t w : Temp} → t ≡ w → (v : ℤ) → SFits w64 v → ((m : ℕ) → item_at z.named m (pos 0) ≡ cond (same_temp w (Named m)) (to_z w64 (of_z w64 v)) (item_at s.named m (pos 0))) → ((m : ℕ) → item_at z.fresh m (pos 0) ≡ cond (same_temp w (Fresh m)) (to_z w64 (of_z w64 v)) (item_at s.fresh m (pos 0))) → (u : Temp) → temps_of z u ≡ cond (same_temp t u) v (temps_of s u)
 unfolding split_definitions
-set_temps s z is v fits named fresh (Named m) = named m ∙ (λ i. cond (same_temp (sym is i) (Named m)) (to_z-of_z w64 v fits i) (values_of s.named.items m))
-set_temps s z is v fits named fresh (Fresh m) = fresh m ∙ (λ i. cond (same_temp (sym is i) (Fresh m)) (to_z-of_z w64 v fits i) (values_of s.fresh.items m))
+set_temps s z is v fits named fresh (Named m) = named m ∙ (λ i. cond (same_temp (sym is i) (Named m)) (to_z-of_z w64 v fits i) (item_at s.named m (pos 0)))
+set_temps s z is v fits named fresh (Fresh m) = fresh m ∙ (λ i. cond (same_temp (sym is i) (Fresh m)) (to_z-of_z w64 v fits i) (item_at s.fresh m (pos 0)))
 
 -- a state that differs from another by one temporary is the other with that one set
 module _ (s u : State) (t : Temp) (v : ℤ) (fits : SFits w64 v) (temps : (w : Temp) → u (TempAt w) ≡ cond (same_temp t w) (to_z w64 (of_z w64 v)) (s (TempAt w))) (bases : (x : ℕ) → u (BaseAt x) ≡ s (BaseAt x)) (deltas : (x j : ℕ) → u (DeltaAt x j) ≡ s (DeltaAt x j)) where

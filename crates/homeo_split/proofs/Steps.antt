@@ -1,5 +1,5 @@
 -- The first of the phrases that are left.
-use Rattle.std.proofs.Common.{◌≡◌, ℕ, ◌+◌, ◌<◌, ◌≤◌, ℤ, ◌+ℤ◌, ◌*ℤ◌, true, cond, ◌&&◌, List, map, drop, get_or, length, sym, ap, ◌∙◌}
+use Rattle.std.proofs.Common.{◌≡◌, ℕ, ◌+◌, ◌<◌, ◌≤◌, ℤ, ◌+ℤ◌, ◌*ℤ◌, Bool, true, cond, ◌&&◌, List, [], ◌∷◌, map, drop, get_or, length, sym, ap, ◌∙◌, subst}
 use Rattle.std.proofs.lemmas.Bool.{and_parts}
 use Rattle.homeo_lemmas.proofs.Lists.{map_drop_past}
 use Rattle.homeo_syntax.specs.Low as l
@@ -24,55 +24,54 @@ unfolding definitions
 product_small b l.NoExpr s n h = h
 product_small b (l.MoreExpr e es) s n h = (and_parts (is_small b n) _ h).0
 
--- one more term of a sum
-pub record SumStep (b : ℕ) (s : State) (n : ℤ) (es : List LExpr) (i : ℕ) (e : LExpr) : Type 0 where
-  pub first : expr_fits b (plain_lexpr e) s ≡ true
-  pub small : is_small b (n +ℤ value (plain_lexpr e) s) ≡ true
-  pub rest : sum_fits b (n +ℤ value (plain_lexpr e) s) (low_exprs (map plain_lexpr (drop (i + 1) es))) s ≡ true
-  pub same : sum_value (n +ℤ value (plain_lexpr e) s) (low_exprs (map plain_lexpr (drop (i + 1) es))) s
-      ≡ sum_value n (low_exprs (map plain_lexpr (drop i es))) s
+-- ---- sums and products, each as a fold: the number so far, and what one phrase more makes of it
+pub record IsFold (op : ℤ → ℤ → ℤ) (fits : ℕ → ℤ → l.Exprs → State → Bool) (total : ℤ → l.Exprs → State → ℤ) : Type 0 where
+  small : (b : ℕ) (es : l.Exprs) (s : State) (n : ℤ) → fits b n es s ≡ true → is_small b n ≡ true
+  fits_more : (b : ℕ) (s : State) (n : ℤ) (e : l.Expr) (es : List l.Expr) →
+      fits b n (low_exprs (e ∷ es)) s ≡ is_small b n && (expr_fits b e s && fits b (op n (value e s)) (low_exprs es) s)
+  more : (s : State) (n : ℤ) (e : l.Expr) (es : List l.Expr) → total n (low_exprs (e ∷ es)) s ≡ total (op n (value e s)) (low_exprs es) s
+  end : (s : State) (n : ℤ) → total n (low_exprs []) s ≡ n
 
-pub sum_step : {b : ℕ} {s : State} {n : ℤ} (es : List LExpr) (i : ℕ) (e : LExpr) → i < length es → e ≡ get_or es i e
-    → sum_fits b n (low_exprs (map plain_lexpr (drop i es))) s ≡ true → SumStep b s n es i e
-sum_step {b} {s} {n} es i e h p fits =
-    let next = drop_next plain_lexpr es i e h p in
-    let k = and_parts _ _ (sym (sum_fits_more b s n (plain_lexpr e) (map plain_lexpr (drop (i + 1) es)))
-    ∙ ap (λ l. sum_fits b n (low_exprs l) s) (sym next) ∙ fits) in
-    let m = and_parts _ _ k.1 in
-    record {
-      first = m.0;
-      small = sum_small b _ s _ m.1;
-      rest = m.1;
-      same = sym (sum_more s n (plain_lexpr e) (map plain_lexpr (drop (i + 1) es))) ∙ ap (λ l. sum_value n (low_exprs l) s) (sym next);
-    }
+pub sums : IsFold ◌+ℤ◌ sum_fits sum_value
+sums = record { small = sum_small; fits_more = sum_fits_more; more = sum_more; end = sum_end }
 
-pub sum_stop : (s : State) (n : ℤ) (es : List LExpr) (i : ℕ) → length es ≤ i → n ≡ sum_value n (low_exprs (map plain_lexpr (drop i es))) s
-sum_stop s n es i h = sym (ap (λ l. sum_value n (low_exprs l) s) (map_drop_past plain_lexpr es i h) ∙ sum_end s n)
+pub products : IsFold ◌*ℤ◌ product_fits product_value
+products = record { small = product_small; fits_more = product_fits_more; more = product_more; end = product_end }
 
--- one more factor of a product
-pub record ProductStep (b : ℕ) (s : State) (n : ℤ) (es : List LExpr) (i : ℕ) (e : LExpr) : Type 0 where
-  pub first : expr_fits b (plain_lexpr e) s ≡ true
-  pub small : is_small b (n *ℤ value (plain_lexpr e) s) ≡ true
-  pub rest : product_fits b (n *ℤ value (plain_lexpr e) s) (low_exprs (map plain_lexpr (drop (i + 1) es))) s ≡ true
-  pub same : product_value (n *ℤ value (plain_lexpr e) s) (low_exprs (map plain_lexpr (drop (i + 1) es))) s
-      ≡ product_value n (low_exprs (map plain_lexpr (drop i es))) s
+module _ {op : ℤ → ℤ → ℤ} {fits : ℕ → ℤ → l.Exprs → State → Bool} {total : ℤ → l.Exprs → State → ℤ} (fold : IsFold op fits total) where
+  -- the phrases from a place on
+  abbrev From : List LExpr → ℕ → l.Exprs
+  From es i = low_exprs (map plain_lexpr (drop i es))
 
-pub product_step : {b : ℕ} {s : State} {n : ℤ} (es : List LExpr) (i : ℕ) (e : LExpr) → i < length es → e ≡ get_or es i e
-    → product_fits b n (low_exprs (map plain_lexpr (drop i es))) s ≡ true → ProductStep b s n es i e
-product_step {b} {s} {n} es i e h p fits =
-    let next = drop_next plain_lexpr es i e h p in
-    let k = and_parts _ _ (sym (product_fits_more b s n (plain_lexpr e) (map plain_lexpr (drop (i + 1) es)))
-    ∙ ap (λ l. product_fits b n (low_exprs l) s) (sym next) ∙ fits) in
-    let m = and_parts _ _ k.1 in
-    record {
-      first = m.0;
-      small = product_small b _ s _ m.1;
-      rest = m.1;
-      same = sym (product_more s n (plain_lexpr e) (map plain_lexpr (drop (i + 1) es))) ∙ ap (λ l. product_value n (low_exprs l) s) (sym next);
-    }
+  -- one phrase more
+  pub record Step (b : ℕ) (s : State) (n : ℤ) (es : List LExpr) (i : ℕ) (e : LExpr) : Type 0 where
+    pub first : expr_fits b (plain_lexpr e) s ≡ true
+    pub small : is_small b (op n (value (plain_lexpr e) s)) ≡ true
+    pub rest : fits b (op n (value (plain_lexpr e) s)) (From es (i + 1)) s ≡ true
+    pub same : total (op n (value (plain_lexpr e) s)) (From es (i + 1)) s ≡ total n (From es i) s
 
-pub product_stop : (s : State) (n : ℤ) (es : List LExpr) (i : ℕ) → length es ≤ i → n ≡ product_value n (low_exprs (map plain_lexpr (drop i es))) s
-product_stop s n es i h = sym (ap (λ l. product_value n (low_exprs l) s) (map_drop_past plain_lexpr es i h) ∙ product_end s n)
+  pub step : {b : ℕ} {s : State} {n : ℤ} (es : List LExpr) (i : ℕ) (e : LExpr) → i < length es → e ≡ get_or es i e →
+      fits b n (From es i) s ≡ true → Step b s n es i e
+  step {b} {s} {n} es i e h p fit =
+      let next = drop_next plain_lexpr es i e h p in
+      let others = map plain_lexpr (drop (i + 1) es) in
+      let k = and_parts _ _ (sym (fold.fits_more b s n (plain_lexpr e) others) ∙ ap (λ l. fits b n (low_exprs l) s) (sym next) ∙ fit) in
+      let m = and_parts _ _ k.1 in
+      record {
+        first = m.0;
+        small = fold.small b _ s _ m.1;
+        rest = m.1;
+        same = sym (fold.more s n (plain_lexpr e) others) ∙ ap (λ l. total n (low_exprs l) s) (sym next);
+      }
+
+  -- the number so far with one phrase more
+  pub step_next : {b : ℕ} {s : State} {n m : ℤ} {es : List LExpr} {i : ℕ} {e : LExpr} → Step b s n es i e → m ≡ op n (value (plain_lexpr e) s) →
+      (fits b m (From es (i + 1)) s ≡ true) × (total m (From es (i + 1)) s ≡ total n (From es i) s)
+  step_next {b} {s} {n} {m} {es} {i} {e} k p =
+      (subst (λ v. fits b v (From es (i + 1)) s ≡ true) (sym p) k.rest, ap (λ v. total v (From es (i + 1)) s) p ∙ k.same)
+
+  pub stop : (s : State) (n : ℤ) (es : List LExpr) (i : ℕ) → length es ≤ i → n ≡ total n (From es i) s
+  stop s n es i h = sym (ap (λ l. total n (low_exprs l) s) (map_drop_past plain_lexpr es i h) ∙ fold.end s n)
 
 -- one more test of a condition
 pub record TestStep (b : ℕ) (s : State) (ts : List LTest) (i : ℕ) (t : LTest) : Type 0 where

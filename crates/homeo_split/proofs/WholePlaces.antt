@@ -5,8 +5,9 @@ use Rattle.homeo_syntax.specs.declared.low.SplitName.{SplitName}
 use Rattle.homeo_syntax.specs.declared.low.SplitName.TheVariants.{Whole, Base, Delta}
 use Rattle.homeo_syntax.specs.Low.{Command, Commands, Skip, Assign, Write, Print, Seq, If, NoCommand, MoreCommand}
 use Rattle.homeo_meaning.specs.Key.{definitions as meaning_definitions}
-use Rattle.homeo_meaning.specs.NamesWithin.{ObjectWithin, NamesWithin, AllNamesWithin}
-use Rattle.homeo_meaning.specs.Whole.{IsWholeName, IsWhole, AreWhole}
+use Rattle.homeo_meaning.specs.NamesWithin.{ObjectWithin, NamesWithin}
+use Rattle.homeo_meaning.specs.Whole.{IsWholeName, IsWhole}
+use Rattle.homeo_meaning.proofs.Parts.{AreWhole, AllNamesWithin}
 use Rattle.homeo_split.specs.Key.{definitions}
 use Rattle.homeo_split.specs.Shape.{Shape, has_place, has_places, has_places_all}
 

@@ -5,15 +5,16 @@ use Rattle.homeo_syntax.specs.declared.low.Temp.TheVariants.{Named, Fresh}
 use Rattle.homeo_syntax.specs.declared.low.SplitName.{SplitName}
 use Rattle.homeo_meaning.specs.LowMeaning.{State, Run, TempAt, BaseAt, DeltaAt, location_of}
 use Rattle.homeo_meaning.specs.Serial.{values_of}
+use Rattle.homeo_meaning.specs.Windowed.{item_at}
 use Rattle.homeo_split.specs.Key.{definitions}
 use Rattle.homeo_split.specs.declared.split.Split.{Split}
 use Rattle.homeo_split.specs.declared.temporaries.Temporaries.{Temporaries}
 
--- 0 wherever a list ends
+-- 0 where none was set
 abbrev pub temps_of : Temporaries → Temp → ℤ
 unfolding definitions
-temps_of s (Named n) = values_of s.named.items n
-temps_of s (Fresh n) = values_of s.fresh.items n
+temps_of s (Named n) = item_at s.named n (pos 0)
+temps_of s (Fresh n) = item_at s.fresh n (pos 0)
 
 -- 0 wherever a list ends
 abbrev pub state_with : List ℤ → List (List ℤ) → (Temp → ℤ) → State

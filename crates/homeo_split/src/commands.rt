@@ -18,7 +18,9 @@ use homeo_syntax::{LCommand, Memory, Prints};
 /// # Errors
 ///
 /// `Memory` when out of memory. Then what was set and printed so far may stand.
+// (most commands assign, write or print, so the choice among their kinds stands where they are run; the other kinds are apart)
 #[cycle(runs)]
+#[inline(always)]
 #[tactic(auto, using(homeo_syntax::proofs::LowViews::low_command_views, crate::proofs::CommandSteps::runs))]
 pub fn run<S: Store>(c: &LCommand, state: &mut S, prints: &mut Prints) -> Result<(), Memory>
     requires places { has_places (S.shape state.old) (plain_lcommand c.now) ≡ true }
@@ -43,17 +45,39 @@ pub fn run<S: Store>(c: &LCommand, state: &mut S, prints: &mut Prints) -> Result
         }
         LCommand::If { test, yes, no } => {
             if holds(test, state) {
-                run(yes, state, prints)
+                run_branch(yes, state, prints)
             } else {
-                run(no, state, prints)
+                run_branch(no, state, prints)
             }
         }
         LCommand::Seq { commands } => run_all(commands.as_slice(), state, prints),
     }
 }
 
-/// Runs commands one after another.
+/// Runs the side of an `if` that its test chose, as `run` does.
+///
+/// # Errors
+///
+/// `Memory` when out of memory. Then what was set and printed so far may stand.
 #[cycle(runs)]
+#[inline(never)]
+fn run_branch<S: Store>(c: &Box<LCommand>, state: &mut S, prints: &mut Prints) -> Result<(), Memory>
+    requires places { has_places (S.shape state.old) (plain_lcommand c.now.value) ≡ true }
+    requires runs { can_exec run_limit (plain_lcommand c.now.value) (S.values state.old) ≡ true }
+    ensures run { OnOk result (run_of (S.values state.new) prints.new.items ≡
+        after_prints prints.old.items (exec (plain_lcommand c.now.value) (S.values state.old))) }
+    ensures leads { OnOk result (S.leads_to state.old state.new) }
+{
+    run(c, state, prints)
+}
+
+/// Runs commands one after another, as `run` does.
+///
+/// # Errors
+///
+/// `Memory` when out of memory. Then what was set and printed so far may stand.
+#[cycle(runs)]
+#[inline(never)]
 #[tactic(auto, using(crate::proofs::CommandSteps::each, homeo_meaning::proofs::Steps::steps))]
 fn run_all<S: Store>(cs: &[LCommand], state: &mut S, prints: &mut Prints) -> Result<(), Memory>
     requires places { has_places_all (S.shape state.old)

@@ -23,7 +23,7 @@ fn compared(op: Compare, left: i64, right: i64) -> bool
 }
 
 /// The value of an expression on what is read, where each number on the way is within the run_limit of runs.
-// (most expressions are a number or a name, so the choice among their kinds stands where it is asked for)
+// (most expressions are a number or a name, so the choice among their kinds stands where it is asked for; the other kinds are apart)
 #[cycle(values)]
 #[inline(always)]
 #[tactic(auto, using(homeo_syntax::proofs::Measures::low_expr_parts, std::proofs::lemmas::Bool::and_parts, homeo_syntax::proofs::LowViews::low_phrase_views), unfolding(crate::specs::Key::definitions, homeo_meaning::specs::Key::definitions))]
@@ -42,6 +42,7 @@ pub fn value<S: Reads>(e: &LExpr, state: &S) -> i64
 }
 
 #[cycle(values)]
+#[inline(never)]
 fn negation<S: Reads>(e: &Box<LExpr>, state: &S) -> i64
     requires fits { expr_fits run_limit (plain_lexpr e.now.value) (S.values state.now) ≡ true }
     requires small { is_small run_limit (neg_ℤ (value (plain_lexpr e.now.value) (S.values state.now))) ≡ true }
@@ -51,6 +52,7 @@ fn negation<S: Reads>(e: &Box<LExpr>, state: &S) -> i64
 }
 
 #[cycle(values)]
+#[inline(never)]
 #[tactic(auto, using(crate::proofs::Equations::sums, homeo_meaning::proofs::Steps::steps))]
 fn sum<S: Reads>(es: &[LExpr], state: &S) -> i64
     requires { sum_fits run_limit (pos 0) (low_exprs (map plain_lexpr es.now)) (S.values state.now) ≡ true }
@@ -64,6 +66,7 @@ fn sum<S: Reads>(es: &[LExpr], state: &S) -> i64
 }
 
 #[cycle(values)]
+#[inline(never)]
 #[tactic(auto, using(crate::proofs::Equations::products, homeo_meaning::proofs::Steps::steps))]
 fn product<S: Reads>(es: &[LExpr], state: &S) -> i64
     requires { product_fits run_limit (pos 1) (low_exprs (map plain_lexpr es.now)) (S.values state.now) ≡ true }

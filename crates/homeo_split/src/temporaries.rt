@@ -5,15 +5,16 @@ ghost use Rattle.homeo_syntax.specs.declared.low.Temp.{Temp};
 ghost use Rattle.homeo_meaning.specs.LowMeaning.{same_temp};
 ghost use Rattle.homeo_split.specs.States.{temps_of};
 
-use homeo_meaning::padded::{item_or, put};
+use homeo_meaning::Window;
 use homeo_syntax::{Memory, Temp};
 use std::alloc::Global;
 
-/// The values of the temporaries of a run by their numbers, those of the text and the fresh ones. Past the end of a list they are 0.
+/// The values of the temporaries of a run by their numbers, those of the text and the fresh ones: 0 where none was set. A text's are
+/// numbered by its names, so those of a call lie together and may begin far from 0.
 #[derive(Drop)]
 pub struct Temporaries {
-    pub named: Vec<i64>,
-    pub fresh: Vec<i64>,
+    pub named: Window<i64>,
+    pub fresh: Window<i64>,
 }
 
 impl Temporaries {
@@ -23,9 +24,18 @@ impl Temporaries {
         ensures { (t : Temp) → temps_of result t ≡ pos 0 }
     {
         Temporaries {
-            named: Vec::new(alloc),
-            fresh: Vec::new(alloc),
+            named: Window::new(alloc),
+            fresh: Window::new(alloc),
         }
+    }
+
+    /// Sets all temporaries to 0, and keeps the memory.
+    #[tactic(auto, unfolding(crate::specs::Key::definitions))]
+    pub fn clear(&mut self)
+        ensures { (t : Temp) → temps_of self.new t ≡ pos 0 }
+    {
+        self.named.clear();
+        self.fresh.clear();
     }
 
     /// The value of a temporary.
@@ -34,8 +44,8 @@ impl Temporaries {
         ensures { result ≡ temps_of self.now t }
     {
         match t {
-            Temp::Named(n) => item_or(self.named.as_slice(), n as usize, 0),
-            Temp::Fresh(n) => item_or(self.fresh.as_slice(), n as usize, 0),
+            Temp::Named(n) => self.named.get(n as usize, 0),
+            Temp::Fresh(n) => self.fresh.get(n as usize, 0),
         }
     }
 
@@ -49,8 +59,8 @@ impl Temporaries {
             if same_temp t u then v else temps_of self.old u) }
     {
         match t {
-            Temp::Named(n) => put(&mut self.named, n as usize, v, 0),
-            Temp::Fresh(n) => put(&mut self.fresh, n as usize, v, 0),
+            Temp::Named(n) => self.named.put(n as usize, v, 0),
+            Temp::Fresh(n) => self.fresh.put(n as usize, v, 0),
         }
     }
 }

@@ -1,7 +1,7 @@
 -- The rows that a cursor has passed, and those that are to come.
-use Rattle.std.proofs.Common.{◌≡◌, ◌+◌, ◌-◌, ◌<◌, Bool, true, false, List, [], ◌∷◌, ◌++◌, map, take, drop, length, get_or, sym, ap, ap₂, subst, ◌∙◌, arith}
+use Rattle.std.proofs.Common.{◌≡◌, ◌+◌, ◌-◌, ◌<◌, Bool, true, false, List, [], ◌∷◌, drop, length, get_or, sym, ap, ap₂, subst, ◌∙◌, arith}
 use Rattle.std.proofs.lemmas.Bool.{false≢true}
-use Rattle.std.proofs.lemmas.List.{length-drop, drop-drop, get_or-drop, drop_more, drop_all, take_more, take_all, map_push}
+use Rattle.std.proofs.lemmas.List.{length-drop, drop-drop, get_or-drop, drop_more, drop_all}
 use Rattle.homeo_syntax.specs.declared.low.LCommand.{LCommand}
 use Rattle.homeo_syntax.specs.LowView.{plain_lcommand}
 use Rattle.homeo_plan.specs.Table.{Row, last_row, table}
@@ -84,20 +84,6 @@ pub fewer-left :
     (v w : RowsValue) → w.command ≡ v.command → w.passed ≡ v.passed + 1 → v.passed < length (all_rows v) →
     length (all_rows w) - w.passed < length (all_rows v) - v.passed
 fewer-left v w same more less = omega (arith, ap (λ c. length (table (plain_lcommand c))) same, more, less)
-
-pub rows-pushed :
-    {X : Type 0} (f : X → Row) (xs ys : List X) (x : X) (c : LCommand) (v w : RowsValue) → ys ≡ xs ++ x ∷ [] → v.command ≡ c → w.command ≡ v.command →
-    w.passed ≡ v.passed + 1 → v.passed < length (all_rows v) → f x ≡ reached w → map f xs ≡ take v.passed (table (plain_lcommand c)) →
-    map f ys ≡ take w.passed (table (plain_lcommand c))
-rows-pushed f xs ys x c v w pushed is same more less row so_far =
-    let all = table (plain_lcommand c) in
-    ap (map f) pushed ∙ map_push f xs x ∙ ap₂ (λ rows r. rows ++ r ∷ []) so_far (row ∙ row-next c v w is same more)
-    ∙ sym (take_more all v.passed last_row (within c v is less)) ∙ ap (λ n. take n all) (sym more)
-
-pub all-taken : (c : LCommand) (v : RowsValue) → v.command ≡ c → v.passed ≡ length (all_rows v) → take v.passed (table (plain_lcommand c)) ≡ table (plain_lcommand c)
-all-taken c v is end =
-    let all = end ∙ ap (λ c. length (table (plain_lcommand c))) is in
-    take_all v.passed (table (plain_lcommand c)) (omega (arith, all))
 
 -- the rows that are to come, before and after one more is reached
 pub left-next :

@@ -3,8 +3,7 @@ pub mod Makings
 pub mod Following
 pub mod Parted
 pub mod Cursors
-pub mod Held
+pub mod NoTemps
 pub mod Fitting
 pub mod WalkSteps
-pub mod FormulasFit
 pub mod RowCounting

@@ -9,7 +9,7 @@ ghost use Rattle.homeo_split.specs.CanExec.{run_limit, cond_fits};
 ghost use Rattle.homeo_split.specs.States.{state_of};
 ghost use Rattle.homeo_substitution.specs.Bindings.{bound};
 ghost use Rattle.homeo_table.specs.inner.Partings.{tests_of, commands_of, row_from};
-ghost use Rattle.homeo_table.specs.inner.Makings.{made_row, completed, command_before, Begins};
+ghost use Rattle.homeo_table.specs.inner.Makings.{completed, command_before, Begins};
 ghost use Rattle.homeo_split.specs.Places.{plain_place};
 ghost use Rattle.homeo_substitution.specs.Substitution.{substituted, substituted_test, substituted_cond};
 
@@ -181,15 +181,6 @@ impl<'a> Making<'a> {
         let commands = copied_commands(alloc, self.commands.as_slice())?;
         Ok(row_of(self.tests, commands))
     }
-
-    /// A copy of the row, where the branch ends.
-    pub(crate) fn copied_row(&self, alloc: Global) -> Result<Row, Memory>
-        ensures { IfOk result (λ r. plain_row r ≡ made_row self.now) }
-    {
-        let tests = copied_tests(alloc, self.tests.as_slice())?;
-        let commands = copied_commands(alloc, self.commands.as_slice())?;
-        Ok(row_of(tests, commands))
-    }
 }
 
 fn row_of(tests: Vec<LTest>, commands: Vec<LCommand>) -> Row
@@ -225,16 +216,6 @@ fn move_tests(tests: List<LTest>, made: &mut Vec<LTest>) -> Result<(), Memory>
         made.push(test)?;
     }
     Ok(())
-}
-
-fn copied_tests(alloc: Global, tests: &[LTest]) -> Result<Vec<LTest>, Memory>
-    ensures { IfOk result (λ r. map plain_ltest r.items ≡ map plain_ltest tests.now) }
-{
-    let mut copies = Vec::with_capacity(alloc, tests.len())?;
-    for test in tests {
-        copies.push(test.copy(alloc)?)?;
-    }
-    Ok(copies)
 }
 
 fn copied_commands(alloc: Global, commands: &[&LCommand]) -> Result<Vec<LCommand>, Memory>

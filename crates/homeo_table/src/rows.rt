@@ -1,7 +1,6 @@
 //! The rows of a command's table, one after another.
 
 use crate::branches::{Branch, Parting};
-use homeo_plan::Row;
 use homeo_syntax::{LCommand, LTest, Memory};
 use std::alloc::Global;
 use std::marker::Model;
@@ -48,7 +47,6 @@ impl<'a> Model for Rows<'a> {
 impl<'a> Rows<'a> {
     ghost use Rattle.std.specs.Prelude.{◌≡◌, ◌+◌, ◌<◌, true, false, map, length, IfOk, OnErr};
     ghost use Rattle.homeo_syntax.specs.LowView.{low_tests, low_commands, plain_ltest, plain_lcommand};
-    ghost use Rattle.homeo_plan.specs.PlanView.{plain_row};
     ghost use Rattle.homeo_table.specs.Rows.{all_rows, reached};
 
     /// Stands before the first row.
@@ -116,13 +114,5 @@ impl<'a> Rows<'a> {
         ensures { low_commands (map (λ c. plain_lcommand c.now) result.now) ≡ (reached self.now).residual }
     {
         self.branch.row.commands()
-    }
-
-    /// A copy of the row that it stands on.
-    pub(crate) fn row(&self, alloc: Global) -> Result<Row, Memory>
-        requires there { self.now.there ≡ true }
-        ensures { IfOk result (λ r. plain_row r ≡ reached self.now) }
-    {
-        self.branch.row.copied_row(alloc)
     }
 }

@@ -1,3 +1,2 @@
-pub mod Frozen
 pub mod Keys
 pub mod Met

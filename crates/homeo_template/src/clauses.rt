@@ -21,8 +21,15 @@ pub(crate) struct DistinctClauses<'a> {
     pub keys: IndexSet<Key<'a>>,
 }
 
-/// The clauses of the atoms of all sets.
-pub(crate) fn join_clauses(alloc: Global, sets: &[AtomSet]) -> Result<List<Clause>, Memory>
+/// The clauses of the atoms of all sets, one set after another: each atom with terms is a clause, whose slack is the atom's constant
+/// negated; equal clauses stand once, where the first of them is.
+///
+/// No constant of an atom may be above 4 * 10^18 in size.
+///
+/// # Errors
+///
+/// `Memory` when out of memory.
+pub fn join_clauses(alloc: Global, sets: &[AtomSet]) -> Result<List<Clause>, Memory>
     requires small { All (λ s. Each (λ a. IsSmall form_limit a.constant) (plain_atoms s)) sets.now }
     ensures { IfOk result (λ cs. map plain_clause cs.items ≡ clauses_from [] (atoms_of_sets (map plain_atoms sets.now))) }
 {

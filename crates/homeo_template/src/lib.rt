@@ -3,11 +3,9 @@
 
 mod clauses;
 mod expanding;
-mod freezes;
-mod joining;
 mod key;
 mod repeated;
 
+pub use clauses::join_clauses;
 pub use expanding::at_sites;
-pub use joining::template;
 pub use repeated::object_clauses;

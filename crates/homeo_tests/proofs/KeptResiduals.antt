@@ -1,7 +1,6 @@
 -- The residual of a planned call can be run at its site on the base, and writes that site's deltas alone.
-use Rattle.std.proofs.Common.{◌≡◌, ℕ, zero, suc, ◌<◌, ◌==◌, true, List, [], ◌∷◌, map, slice_get, ℤ, ◌+ℤ◌, Some, refl, sym, ap, subst, inl, inr, arith}
+use Rattle.std.proofs.Common.{◌≡◌, ℕ, zero, suc, ◌<◌, ◌==◌, true, List, [], ◌∷◌, map, slice_get, ℤ, Some, refl, sym, ap, subst, inl, inr}
 use mathlib.Core.Path.{fun_ext}
-use Rattle.std.proofs.lemmas.Int.{ints}
 use Rattle.homeo_lemmas.proofs.Integers.{cond_zero}
 use Rattle.homeo_syntax.specs.Source as s
 use Rattle.homeo_meaning.specs.Key.{definitions as meaning_definitions}
@@ -31,6 +30,7 @@ use Rattle.homeo_effect.specs.Touched.{WritesOwn}
 use Rattle.homeo_history.specs.Key.{definitions as history_definitions}
 use Rattle.homeo_site.proofs.StepFindings.{residual_straight}
 use Rattle.homeo_site.proofs.StepsRun.{alone_runs}
+use Rattle.homeo_forecast.proofs.Ready.{no_change}
 use Rattle.homeo_tests.proofs.OwnWrites.{writes_own}
 
 -- ---- on the base, before any call
@@ -42,10 +42,6 @@ base_is_alone b i = fun_ext at
     at (TempAt t) = refl
     at (BaseAt n) = refl
     at (DeltaAt n j) = cond_zero (j == i)
-
-no_change : (b : ℕ → ℤ) → b ≡ (λ n. b n +ℤ no_deltas n)
-unfolding plan_definitions
-no_change b = fun_ext (λ n. omega (arith, ints))
 
 base_runs :
     (w : s.Workload) (base : List ℤ) (g : PlannedCall) → IsAccepted w → IsWithin (schema_of w) base → Member g (planned w) →

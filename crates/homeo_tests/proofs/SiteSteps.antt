@@ -41,6 +41,7 @@ change_stays old new call c n e h =
       call = refl;
       deltas = h.deltas ∙ ap (step_deltas w old.state) (sym h.call);
       prints = h.prints ∙ ap (step_prints w old.state) (sym h.call);
+      written = h.written;
     })
 
 pub number_stays :

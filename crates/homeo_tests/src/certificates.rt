@@ -5,9 +5,10 @@ ghost use Rattle.homeo_build.specs.Plan.{IsPlanOf};
 
 use crate::same::{same, same_items};
 use crate::shops::compiled;
+use crate::texts::push_times;
 use homeo_build::Compiled;
 use homeo_build::treaties::treaties;
-use homeo_cert::certificate;
+use homeo_cert::{CertError, certificate};
 use homeo_certificate::Verdict;
 use homeo_eval::initial;
 use homeo_plan::{Delta, RoundPlan};
@@ -74,5 +75,30 @@ fn a_verdict_is_the_first_fault(rt: HostRuntime) {
     ] {
         let told = verdict_on(&rt, rt.alloc(), text.as_bytes());
         same(&rt, &told, &verdict);
+    }
+}
+
+/// Eight calls at 16 sites, each of which prints 900 sums over the object.
+fn long_prints(rt: &impl Abort, alloc: Global) -> String {
+    let head = "workload 1\nsites 16\nobject x in 0..8 = 5\ntransaction t(n in 0..9) { ";
+    let print =
+        "print(n + read(x) + read(x) + read(x) + read(x) + read(x) + read(x) + read(x) + read(x) + read(x) + read(x) + 0); ";
+    let calls = "skip }\nclient c at 1 { t(1); t(2); t(3); t(4); t(5); t(6); t(7); t(8) }\nend\n";
+    let mut text = String::from_str(alloc, head).expect(rt, "memory");
+    push_times(rt, &mut text, print, 900);
+    text.push_str(calls).expect(rt, "memory");
+    text
+}
+
+/// Each call adds 2,304,944 bytes to the 178 of the rest.
+#[test]
+fn a_certificate_may_be_too_long(rt: HostRuntime) {
+    let alloc = rt.alloc();
+    let text = long_prints(&rt, alloc);
+    let c = compiled(&rt, alloc, text.as_str());
+    let plan = first_plan(&rt, alloc, &c);
+    match certificate(alloc, &c, &plan) {
+        Err(CertError::TooLong { bytes }) => same(&rt, &bytes, &18_439_730),
+        _ => panic!(rt; "a text that is too long"),
     }
 }

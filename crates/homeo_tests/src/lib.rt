@@ -17,6 +17,8 @@ mod effects;
 #[cfg(test)]
 mod faults;
 #[cfg(test)]
+mod forecasts;
+#[cfg(test)]
 mod forms;
 #[cfg(test)]
 mod gates;

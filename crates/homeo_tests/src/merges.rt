@@ -4,7 +4,8 @@ ghost use Rattle.std.specs.Prelude.{◌≡◌, length};
 
 use crate::gates::call;
 use crate::same::same_items;
-use homeo_history::{Entry, MergeError, Round, Segment, interleave};
+use homeo_history::{Entry, Round, Segment};
+use homeo_merge::{MergeError, interleave};
 use homeo_syntax::List;
 use std::alloc::Global;
 use std::process::Abort;

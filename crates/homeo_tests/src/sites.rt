@@ -20,7 +20,7 @@ use std::process::Abort;
 use std::sync::Arc;
 
 /// The call of this number of the first client, if there is one and the client is at site 0.
-fn first_client_call(w: &Accepted, seq: u64) -> Option<CallId>
+pub(crate) fn first_client_call(w: &Accepted, seq: u64) -> Option<CallId>
     ensures { IfSome result (IsCallAt (plain_workload w.now) 0) }
 {
     match w.workload().clients.as_slice() {

@@ -1,14 +1,15 @@
 -- One more token is numbered.
 use Rattle.std.proofs.Common.{◌≡◌, ℕ, List, [], ◌∷◌, ◌++◌, map, refl, sym, ap, ap₂, ◌∙◌}
-use Rattle.std.specs.Prelude.{Ok, if◌then◌else◌}
+use Rattle.std.specs.Prelude.{None, Ok, if◌then◌else◌}
 use Rattle.std.specs.Result.{result_map_both}
 use Rattle.std.proofs.lemmas.List.{map-append}
-use Rattle.homeo_syntax.specs.Lexemes.{Lexeme, Name, Number, Fixed}
+use Rattle.homeo_syntax.specs.Lexemes.{Lexeme, Name, Number, Fixed, look_up, word_as}
 use Rattle.homeo_syntax.specs.Tokens.{Scanned, begins_second, version_of, lexeme_in, scanned_in, in_version, unversioned, scanned_of, with_lexeme, names_after, names_of, kind_in, token_in, tokens_in}
 use Rattle.homeo_syntax.specs.declared.token.Kind.{Kind}
 use Rattle.homeo_syntax.specs.declared.token.Token.{Token}
 use Rattle.homeo_syntax.specs.declared.token.Version.{Version}
 use Rattle.homeo_syntax.specs.declared.token.Version.TheVariants.{First, Second}
+use Rattle.homeo_syntax.specs.Versions.{also_reserved}
 use Rattle.homeo_tokens.specs.inner.Numbers.{kinds_second, version_by}
 use Rattle.homeo_tokens.proofs.Names.{kind_after}
 
@@ -55,6 +56,11 @@ tokens_grown : (ts : List Scanned) (t : Scanned) → tokens_in (names_of (ts ++ 
 tokens_grown ts t =
     map-append (token_in (names_of (ts ++ t ∷ []))) ts (t ∷ [])
     ∙ ap₂ (λ (l : List Token) (names : List (List ℕ)). l ++ token_in names t ∷ []) (kept [] ts t) (names_grown [] ts t)
+
+-- a word that no version reserves is a name in each
+pub name_stays : (v : Version) (w : List ℕ) → look_up (also_reserved Second) w ≡ None → lexeme_in v (Name w) ≡ Name w
+name_stays First w e = refl
+name_stays Second w e = ap (word_as w) e
 
 -- a lexeme that comes behind others
 module _ (ts : List Scanned) (l : Lexeme) (at : ℕ) (v : Version) (old new : List (List ℕ)) (o : old ≡ names_of (in_version ts)) (is : v ≡ version_of ts) (n : new ≡ with_lexeme old (lexeme_in v l)) where

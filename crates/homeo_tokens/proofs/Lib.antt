@@ -1,3 +1,4 @@
+pub mod Clean
 pub mod Front
 pub mod Growing
 pub mod Names

@@ -70,7 +70,7 @@ front_push front t (Err at) = refl
 abbrev Sized : ℕ → List ℕ → Type 0
 Sized n bytes = (1 ≤ n) × (n ≤ length bytes)
 
-limited : (limit n : ℕ) (k : Lexeme) (l : Lexeme × ℕ) → (if nat_lt limit n then None else Some (k, n)) ≡ Some l → n ≡ l.1
+pub limited : (limit n : ℕ) (k : Lexeme) (l : Lexeme × ℕ) → (if nat_lt limit n then None else Some (k, n)) ≡ Some l → n ≡ l.1
 limited limit n k l e = go (nat_lt limit n) e
   where
     len : Option (Lexeme × ℕ) → ℕ
@@ -88,7 +88,7 @@ run_sized p b bytes n h e =
     let one : prefix_len p (b ∷ bytes) ≡ 1 + prefix_len p bytes = ap (λ (t : Bool). if t then 1 + prefix_len p bytes else 0) h in
     (omega arith, omega arith)
 
-abbrev lexeme_len : Option (Lexeme × ℕ) → ℕ
+abbrev pub lexeme_len : Option (Lexeme × ℕ) → ℕ
 lexeme_len None = 0
 lexeme_len (Some l) = l.1
 

@@ -1,11 +1,12 @@
 //! The token that a text begins with (this project's rule).
 
-ghost use Rattle.std.specs.Prelude.{◌≡◌, ◌<◌, ◌≤◌, length, option_map, EachIndex, IsTrue, slice_index, pos, bytes_eq, ◌∷◌, []};
+ghost use Rattle.std.specs.Prelude.{◌≡◌, ◌<◌, ◌≤◌, length, None, option_map, EachIndex, IsTrue, slice_index, pos, bytes_eq, ◌∷◌, [], false};
 ghost use Rattle.std.specs.List.{prefix_len};
 ghost use Rattle.homeo_syntax.specs.Lexemes as spec;
 ghost use Rattle.homeo_syntax.specs.Marks.{mark_text};
 ghost use Rattle.homeo_syntax.specs.Tokens as tokens;
 ghost use Rattle.homeo_syntax.specs.Versions.{also_reserved};
+ghost use Rattle.homeo_syntax.specs.declared.token.Version.TheVariants as version;
 ghost use Rattle.homeo_tokens.specs.Views.{plain_lexeme, plain_found};
 ghost use Rattle.homeo_tokens.specs.inner.Lexemes.{fixed, symbol_lexeme};
 
@@ -246,6 +247,16 @@ fn also_reserved(version: Version) -> &'static [Mark]
     match version {
         Version::First => &[],
         Version::Second => &LATER_RESERVED,
+    }
+}
+
+/// Whether a word may be one that version 2 alone reserves, by its first letter.
+pub(crate) fn may_be_later(word: &[u8]) -> bool
+    ensures { result ≡ false → spec.look_up (also_reserved version.Second) word.now ≡ None }
+{
+    match word.first() {
+        Some(b'a' | b'w') => true,
+        _ => false,
     }
 }
 

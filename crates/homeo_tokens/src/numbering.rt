@@ -2,12 +2,12 @@
 
 ghost use Rattle.std.specs.Prelude.{◌≡◌, ◌+◌, ◌<◌, ◌≤◌, ◌^◌, [], length, IfOk, OnOk};
 ghost use Rattle.indexmap.specs.IndexSet.{index_set_len};
-ghost use Rattle.homeo_syntax.specs.Tokens.{kind_in, with_lexeme};
+ghost use Rattle.homeo_syntax.specs.Tokens.{kind_in, lexeme_in, with_lexeme};
 ghost use Rattle.homeo_tokens.specs.Views.{plain_lexeme};
 ghost use Rattle.homeo_tokens.specs.inner.Names.{plain_names};
 ghost use Rattle.homeo_tokens.specs.inner.Numbers.{kinds_second, version_by, IsFew, Numbers, Adds};
 
-use crate::lexeme::{Lexeme, is_workload, lexeme_in};
+use crate::lexeme::{Lexeme, is_workload, lexeme_in, may_be_later};
 use homeo_syntax::{Kind, List, Memory, Text, Token, Version};
 use indexmap::IndexSet;
 use std::alloc::Global;
@@ -79,6 +79,23 @@ fn version_of(tokens: &[Token]) -> Version
     }
 }
 
+/// The token as the version of a text that begins with these tokens has it. Few words ask for the version.
+#[tactic(auto, using(crate::proofs::Growing::name_stays))]
+fn lexeme_behind<'a>(tokens: &[Token], lexeme: Lexeme<'a>) -> Lexeme<'a>
+    ensures { plain_lexeme result ≡ lexeme_in (version_by tokens.now) (plain_lexeme lexeme.entry) }
+{
+    match lexeme {
+        Lexeme::Name(word) => {
+            if may_be_later(word.as_bytes()) {
+                lexeme_in(version_of(tokens), lexeme)
+            } else {
+                lexeme
+            }
+        }
+        Lexeme::Number(_) | Lexeme::Fixed(_) => lexeme,
+    }
+}
+
 impl<'a> Numbering<'a> {
     /// No tokens yet.
     pub fn new(alloc: Global) -> Numbering<'a>
@@ -99,7 +116,7 @@ impl<'a> Numbering<'a> {
         ensures more { OnOk result (length self.new.tokens.items ≡ length self.old.tokens.items + 1) }
         ensures numbers { OnOk result (Adds self.old (record { lexeme = plain_lexeme lexeme.entry; offset = offset }) self.new) }
     {
-        let lexeme = lexeme_in(version_of(self.tokens.as_slice()), lexeme);
+        let lexeme = lexeme_behind(self.tokens.as_slice(), lexeme);
         let kind = number_lexeme(&mut self.names, lexeme)?;
         self.tokens.push(Token {
             kind,

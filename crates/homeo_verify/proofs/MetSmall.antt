@@ -14,8 +14,9 @@ use Rattle.homeo_plan.specs.Key.{definitions as plan_definitions}
 use Rattle.homeo_plan.specs.declared.forms.Term.{Term}
 use Rattle.homeo_plan.specs.Each.{Each}
 use Rattle.homeo_plan.specs.Limit.{form_limit}
-use Rattle.homeo_plan.specs.Linear.{Linear, constant_form, scale_terms, scale_form, add_forms, multiply_forms, Forms, form, sum_form, product_form}
+use Rattle.homeo_plan.specs.Linear.{Linear, constant_form, scale_terms, scale_form, add_forms, multiply_forms, Forms, form}
 use Rattle.homeo_plan.specs.FormSizes.{Numbers, CanForm, CanSum, CanProduct}
+use Rattle.homeo_plan.proofs.FormNumbers.{small_form}
 use Rattle.homeo_certificate.specs.Key.{definitions}
 use Rattle.homeo_certificate.specs.Met.{numbers, met, met_in_sum, met_in_product}
 
@@ -73,25 +74,6 @@ unfolding plan_definitions
 negated a h = record { constant = small_negated a.constant h.constant; factors = terms_negated a.terms h.factors }
 
 mutual
-  unfolding plan_definitions
-
-  pub own : (f : Forms) (e : Expr) → CanForm Small f e → Numbers Small (form f e)
-  own f (Literal n) h = h
-  own f (OfTemp t) h = h
-  own f (Read x) h = h
-  own f (Sum es) h = own_sum f es (constant_form (pos 0)) h
-  own f (Product es) h = own_product f es (constant_form (pos 1)) h
-  own f (Neg e) h = h.1
-
-  own_sum : (f : Forms) (es : Exprs) (a : Linear) → CanSum Small f a es → Numbers Small (sum_form f a es)
-  own_sum f NoExpr a h = h
-  own_sum f (MoreExpr e es) a h = own_sum f es (add_forms (form f e) a) h.2
-
-  own_product : (f : Forms) (es : Exprs) (a : Linear) → CanProduct Small f a es → Numbers Small (product_form f a es)
-  own_product f NoExpr a h = h
-  own_product f (MoreExpr e es) a h = own_product f es (multiply_forms a (form f e)) h.2
-
-mutual
   unfolding definitions plan_definitions
 
   pub can_if_small : (f : Forms) (e : Expr) → AllSmall (met f e) → CanForm Small f e
@@ -104,7 +86,7 @@ mutual
   can_if_small f (Product es) h = product_if_small f es (constant_form (pos 1)) h
   can_if_small f (Neg e) h =
       let c = can_if_small f e h in
-      (c, negated (form f e) (own f e c))
+      (c, negated (form f e) (small_form Small f e c))
 
   sum_if_small : (f : Forms) (es : Exprs) (a : Linear) → AllSmall (met_in_sum f a es) → CanSum Small f a es
   sum_if_small f NoExpr a h = numbers_are a h

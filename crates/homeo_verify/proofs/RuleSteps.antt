@@ -64,11 +64,6 @@ module _ (r : Rules) (a : Linear) where
     lacks_its_clause some h =
         ([], ap (λ e. cond e [] (cond (list_any (keeps a) r.clauses) [] (NoClause ∷ []))) (some_terms a.terms some) ∙ ap (λ w. cond w [] (NoClause ∷ [])) (sym is ∙ h))
 
--- what is added to a difference
-pub zero_is_small : IsSmall form_limit (pos 0)
-unfolding meaning_definitions
-zero_is_small = omega arith
-
 pub one_is_small : IsSmall form_limit (pos 1)
 unfolding meaning_definitions
 one_is_small = omega arith

@@ -3,10 +3,9 @@ use Rattle.std.specs.Prelude.{◌≡◌, ℕ, List, [], ◌∷◌, map, Some, sl
 use Rattle.homeo_syntax.specs.Low.{Command}
 use Rattle.homeo_syntax.specs.LowView.{plain_lcommand}
 use Rattle.homeo_syntax.specs.Source as s
-use Rattle.homeo_meaning.specs.Calls.{IsGroundCall}
 use Rattle.homeo_meaning.specs.CallForm.{ground_form}
+use Rattle.homeo_meaning.specs.Forms.{CallBody}
 use Rattle.homeo_meaning.specs.Ground.{Ground}
-use Rattle.homeo_build.specs.Forms.{CallBody}
 use Rattle.homeo_build.specs.declared.forms.Bodies.{Bodies}
 use Rattle.homeo_build.specs.declared.forms.Body.{Body}
 
@@ -18,17 +17,12 @@ call_body b = record { transaction = b.transaction; args = b.args.items }
 abbrev pub ground_to : Body → Ground
 ground_to b = record { transaction = b.transaction; args = b.args.items; site = 0 }
 
--- some client calls it, and this is its L form
-pub record IsFormTo (w : s.Workload) (b : Body) (f : Command) : Type 0 where
-  pub made : IsGroundCall w b.transaction b.args.items
-  pub is : f ≡ ground_form w (ground_to b)
-
 -- each of these has the form at its place
 abbrev pub HaveBodies : s.Workload → List Body → List Command → Type 0
 HaveBodies w [] [] = Unit {0}
 HaveBodies w [] (f ∷ fs) = ⊥
 HaveBodies w (b ∷ bs) [] = ⊥
-HaveBodies w (b ∷ bs) (f ∷ fs) = IsFormTo w b f × HaveBodies w bs fs
+HaveBodies w (b ∷ bs) (f ∷ fs) = (f ≡ ground_form w (ground_to b)) × HaveBodies w bs fs
 
 abbrev pub AreBodies : s.Workload → Bodies → Type 0
 AreBodies w b = HaveBodies w b.bodies.keys (map plain_lcommand b.forms.items)

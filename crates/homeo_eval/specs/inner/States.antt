@@ -8,11 +8,12 @@ use Rattle.homeo_meaning.specs.Bounds.{all_bounds}
 use Rattle.homeo_meaning.specs.Context.{Spot}
 use Rattle.homeo_meaning.specs.Meaning.{State, Run, is_within}
 use Rattle.homeo_meaning.specs.Serial.{values_of}
+use Rattle.homeo_meaning.specs.Windowed.{item_at}
 use Rattle.homeo_lform.specs.RowsFit.{RowsFit}
 
 abbrev pub state_of : code.State → State
 unfolding definitions
-state_of s = record { database = values_of s.database.items; temps = values_of s.temps.items }
+state_of s = record { database = values_of s.database.items; temps = λ n. item_at s.temps n (pos 0) }
 
 abbrev pub run_of : State → List ℤ → Bool → Run
 unfolding definitions

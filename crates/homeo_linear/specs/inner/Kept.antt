@@ -2,7 +2,7 @@
 use Rattle.std.specs.Prelude.{◌≡◌, ℕ, ◌<◌, cond, List, map, length, get_or, negsuc, int_lt, Option, MatchOption, true}
 use Rattle.homeo_syntax.specs.declared.phrase.Compare.{Compare}
 use Rattle.homeo_syntax.specs.declared.low.LTest.{LTest}
-use Rattle.homeo_syntax.specs.Low.{Expr, Test, Cond}
+use Rattle.homeo_syntax.specs.Low.{Expr, Cond}
 use Rattle.homeo_syntax.specs.LowView.{low_tests, plain_ltest}
 use Rattle.homeo_meaning.specs.Meaning.{compared}
 use Rattle.homeo_meaning.specs.Small.{IsSmall}
@@ -10,7 +10,8 @@ use Rattle.homeo_plan.specs.Atoms.{true_comparison, false_comparison}
 use Rattle.homeo_plan.specs.FormSizes.{Numbers, CanForm, CanTest}
 use Rattle.homeo_plan.specs.Linear.{Linear, Forms, add_forms, scale_form, form}
 use Rattle.homeo_plan.specs.Limit.{form_limit}
-use Rattle.homeo_follow.specs.Follow.{passes_by, holds_by, passed_test, failed_test, passed, failed}
+use Rattle.homeo_follow.specs.Follow.{passes_by, holds_by}
+pub use Rattle.homeo_linear.specs.Kept.{kept_test, kept_cond}
 
 -- the numbers met in the difference of two forms are small
 pub record AreApart (a b : Linear) : Type 0 where
@@ -30,12 +31,6 @@ pub record AreSides (f : Forms) (x y : Expr) : Type 0 where
 abbrev pub kept_comparison : Compare → Linear → Linear → List Linear
 kept_comparison op a b =
     cond (compared op a.constant b.constant) (true_comparison op a b) (false_comparison op (int_lt a.constant b.constant) a b)
-
-abbrev pub kept_test : Forms → Test → List Linear
-kept_test f t = cond (passes_by f t) (passed_test f t) (failed_test f t)
-
-abbrev pub kept_cond : Forms → Cond → List Linear
-kept_cond f c = cond (holds_by f c) (passed f c) (failed f c)
 
 -- the condition of tests
 abbrev pub cond_of : List LTest → Cond

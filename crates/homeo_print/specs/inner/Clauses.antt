@@ -1,17 +1,18 @@
 -- The clauses of a plan as they are printed: over the deltas of its sites, and with their bounds.
-use Rattle.std.specs.Prelude.{ℕ, List, [], map, take, replicate, slice_index_or, ℤ, pos, ◌++◌, codes, Option, Some, None}
+use Rattle.std.specs.Prelude.{◌≡◌, ℕ, List, [], map, take, replicate, slice_index_or, ℤ, pos, ◌++◌, codes, Option, Some, None}
 use Rattle.std.specs.Fmt.{signed_decimal}
 use Rattle.homeo_syntax.specs.Source as s
 use Rattle.homeo_plan.specs.Config.{Config, split, even}
 use Rattle.homeo_plan.specs.PlanView.{plain_config}
 use Rattle.homeo_plan.specs.Template.{Clause}
 use Rattle.homeo_plan.specs.declared.templates.Config as code
-use Rattle.homeo_follow.specs.Expanded.{expanded_terms}
+use Rattle.homeo_follow.specs.Expanded.{terms_from, expanded_terms}
 use Rattle.homeo_follow.specs.ObjectTemplate.{expanded_clause}
 use Rattle.homeo_outline.specs.ObjectPlan.{clauses_with}
 use Rattle.homeo_outline.specs.declared.plan.ObjectPlan.{ObjectPlan}
 use Rattle.homeo_print.specs.Key.{definitions}
 use Rattle.homeo_print.specs.Tables.{object_text}
+use Rattle.homeo_print.specs.Treaties.{terms_text}
 
 abbrev pub slack_in : ObjectPlan → ℕ → ℤ
 unfolding definitions
@@ -40,6 +41,10 @@ bounds_in p n = bounds_or (split (replicate p.outline.value.sites 1) (slack_in p
 abbrev pub term_front : s.Workload → ℕ → ℤ → List ℕ
 unfolding definitions
 term_front w x f = codes " " ++ signed_decimal f ++ codes "*" ++ object_text w x ++ codes "@"
+
+-- a text is that of the term of any object of this name at k sites
+abbrev pub IsSpread : List ℕ → ℤ → ℕ → List ℕ → Type 0
+IsSpread name f k text = (w : s.Workload) (x : ℕ) → object_text w x ≡ name → text ≡ terms_text w (terms_from 0 k x f)
 
 -- ---- the first n clauses
 abbrev pub first_clauses : ObjectPlan → ℕ → List Clause

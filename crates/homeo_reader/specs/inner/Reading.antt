@@ -12,11 +12,11 @@ use Rattle.homeo_syntax.specs.declared.phrase.Compare.TheVariants as compare
 use Rattle.homeo_syntax.specs.declared.phrase.Expr.{Expr}
 use Rattle.homeo_syntax.specs.declared.phrase.Test.{Test as Test_}
 use Rattle.homeo_syntax.specs.Source as s
-use Rattle.homeo_syntax.specs.SourceView.{tests, plain_expr, plain_test, plain_cond}
+use Rattle.homeo_syntax.specs.SourceView.{exprs, tests, plain_expr, plain_test, plain_cond}
 use Rattle.homeo_syntax.specs.Classes.{number_of, name_class, number_class}
 use Rattle.homeo_syntax.specs.Grammar.{call, many, alt, as_value}
 use Rattle.homeo_syntax.specs.Rules as rules
-use Rattle.homeo_syntax.specs.Rules.{Deep, Factor, Test, Tree, Rule, rule, lead, ident_at, number_at, value_in, is_natural, is_value, product_of, sum_of}
+use Rattle.homeo_syntax.specs.Rules.{Deep, Factor, Test, Tree, Rule, rule, lead, ident_at, number_at, value_in, is_natural, is_value}
 use Rattle.homeo_reader.specs.declared.conditions.Visit.{Visit}
 use Rattle.homeo_reader.specs.declared.parser.Fault.{Fault}
 use Rattle.homeo_reader.specs.declared.parser.Fault.TheVariants.{Memory, Stuck}
@@ -170,16 +170,26 @@ factor_do room (t ∷ ts) = factor_by room t.kind t ts
 unfoldable pub next_factor_do : ℕ → List Token → Reading (Option s.Expr)
 next_factor_do room ts = if_marked mark.Star ts (λ r. factor_read room r >>= λ x. Ok (Some x.0, x.1)) (Ok (None, ts))
 
+-- a factor alone, or a product that begins with two
+unfoldable pub after_factor : ℕ → s.Expr → Option s.Expr → List Token → Reading s.Expr
+after_factor room first None ts = Ok (first, ts)
+after_factor room first (Some second) ts = with_front (first ∷ second ∷ []) (factors_read room ts) >>= λ x. Ok (s.Product (exprs x.0), x.1)
+
 unfoldable pub term_do : ℕ → List Token → Reading s.Expr
-term_do room ts = factor_read room ts >>= λ x. factors_read room x.1 >>= λ y. Ok (product_of x.0 y.0, y.1)
+term_do room ts = factor_read room ts >>= λ x. next_factor_read room x.1 >>= λ y. after_factor room x.0 y.0 y.1
 
 unfoldable pub next_term_do : ℕ → List Token → Reading (Option s.Expr)
 next_term_do room ts =
     if_marked mark.Plus ts (λ r. term_read room r >>= λ x. Ok (Some x.0, x.1))
     (if_marked mark.Minus ts (λ r. term_read room r >>= λ x. Ok (Some (s.Neg x.0), x.1)) (Ok (None, ts)))
 
+-- a term alone, or a sum that begins with two
+unfoldable pub after_term : ℕ → s.Expr → Option s.Expr → List Token → Reading s.Expr
+after_term room first None ts = Ok (first, ts)
+after_term room first (Some second) ts = with_front (first ∷ second ∷ []) (terms_read room ts) >>= λ x. Ok (s.Sum (exprs x.0), x.1)
+
 unfoldable pub expr_do : ℕ → List Token → Reading s.Expr
-expr_do room ts = term_read room ts >>= λ x. terms_read room x.1 >>= λ y. Ok (sum_of x.0 y.0, y.1)
+expr_do room ts = term_read room ts >>= λ x. next_term_read room x.1 >>= λ y. after_term room x.0 y.0 y.1
 
 unfoldable pub comparison_do : List Token → Reading Compare
 comparison_do ts =

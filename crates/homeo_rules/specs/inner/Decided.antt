@@ -1,5 +1,5 @@
 -- The steps in which the fault that decides is found.
-use Rattle.std.specs.Prelude.{◌≡◌, List, [], ◌++◌, map, Option, None}
+use Rattle.std.specs.Prelude.{◌≡◌, List, [], ◌++◌, map, Option, Some, None, Result, Ok, Err}
 use Rattle.homeo_syntax.specs.Source as s
 use Rattle.homeo_meaning.specs.GlobalNames.{global_names, duplicate, scope_of}
 use Rattle.homeo_meaning.specs.TransactionRules.{each}
@@ -32,3 +32,8 @@ faults_with_names purpose w =
 pub record IsFaultless (w : s.Workload) : Type 0 where
   pub declared : declared_faults w ≡ []
   pub limits : limit_faults w ≡ []
+
+-- the fault that decides, if there is one
+abbrev pub fault_of : {T : Type 0} → Result T Fault → Option Fault
+fault_of (Ok t) = None
+fault_of (Err f) = Some f

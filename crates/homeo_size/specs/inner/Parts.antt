@@ -1,11 +1,9 @@
 -- The extents of phrases and the measures of commands by those of their parts, each number told up to its cap.
-use Rattle.std.specs.Prelude.{ℕ, ◌+◌, ◌*◌, max, true, false, cond, ℤ}
-use Rattle.homeo_meaning.specs.Context.{Spot}
+use Rattle.std.specs.Prelude.{ℕ, ◌+◌, ◌*◌, max, Bool, ◌&&◌, nat_le, ℤ}
 use Rattle.homeo_meaning.specs.LowWeights.{number_weight}
 use Rattle.homeo_size.specs.inner.Key.{definitions}
 use Rattle.homeo_size.specs.inner.Numbers.{cap, weight_cap}
 use Rattle.homeo_size.specs.declared.extent.Extent.{Extent}
-use Rattle.homeo_size.specs.declared.measures.Before.{Before}
 use Rattle.homeo_size.specs.declared.measures.Measure.{Measure}
 
 abbrev pub literal : ℤ → Extent
@@ -59,6 +57,11 @@ abbrev pub greater : Extent → Extent → Extent
 unfolding definitions
 greater a b = record { size = max a.size b.size; depth = max a.depth b.depth; weight = max a.weight b.weight }
 
+-- in no respect more
+abbrev pub no_more : Extent → Extent → Bool
+unfolding definitions
+no_more a b = nat_le a.size b.size && (nat_le a.depth b.depth && nat_le a.weight b.weight)
+
 -- an object that nothing is written to, which weighs so much
 abbrev pub unwritten : ℕ → ℕ → Extent
 unfolding definitions
@@ -97,32 +100,3 @@ chosen t m n = record {
 abbrev pub followed : Measure → Measure → Measure
 unfolding definitions
 followed m n = record { size = cap (m.size + n.size); depth = max m.depth n.depth; weight = max m.weight n.weight; rows = cap (m.rows * n.rows) }
-
--- ---- the commands of liftings
-abbrev pub none : Before
-none = record { all = empty; any = false }
-
-abbrev pub with_one : Before → Measure → Before
-unfolding definitions
-with_one b m = record { all = followed b.all m; any = true }
-
--- a command after those before it, alone where there are none
-abbrev pub placed : Before → Measure → Measure
-unfolding definitions
-placed b m = cond b.any (followed b.all m) m
-
--- ---- tests
--- more tests: that a value is within the bounds
-abbrev pub within_tests : Spot → Extent → Extent → Extent
-unfolding definitions
-within_tests b e a = beside (beside a (compared (literal b.lo) e)) (compared e (literal b.hi))
-
--- the condition that a value is a number
-abbrev pub is_equal : Extent → ℤ → Extent
-unfolding definitions
-is_equal e v = around (beside nothing (compared e (literal v)))
-
--- a write of a value where it is within the bounds
-abbrev pub guarded : ℕ → Spot → Extent → Measure
-unfolding definitions
-guarded sites b e = chosen (around (within_tests b e nothing)) (writing sites e) empty

@@ -1,8 +1,9 @@
--- The tables of names' extents with a log of what they held before each change, by which a branch is taken back.
-use Rattle.std.specs.Prelude.{ℕ, ◌==◌, cond, List, [], ◌∷◌, ◌++◌, map, length, take, drop}
-use Rattle.homeo_meaning.specs.Context.{Slot}
+-- The names' extents with a log of what they were before each change, by which a branch is taken back.
+use Rattle.std.specs.Prelude.{ℕ, cond, List, [], ◌∷◌, ◌++◌, map, take, drop}
+use Rattle.homeo_syntax.specs.Low.{Command, Commands, Skip, Assign, Write, Print, Seq, If, NoCommand, MoreCommand}
+use Rattle.homeo_meaning.specs.LowMeaning.{Location, TempAt, location_of, put}
 use Rattle.homeo_size.specs.inner.Key.{definitions}
-use Rattle.homeo_size.specs.inner.Parts.{greater}
+use Rattle.homeo_size.specs.inner.Parts.{greater, no_more}
 use Rattle.homeo_size.specs.inner.Sizing.{Sizes}
 use Rattle.homeo_size.specs.declared.extent.Extent.{Extent}
 use Rattle.homeo_size.specs.declared.extents.Entry.{Entry}
@@ -12,24 +13,20 @@ pub record Store : Type 0 where
   pub sizes : Sizes
   pub log : List Kept
 
-abbrev pub with_temp : Sizes → ℕ → Extent → Sizes
+-- where an entry of the tables has its extent
+abbrev pub location_at : Entry → Location
 unfolding definitions
-with_temp s n e = record { objects = s.objects; temps = λ m. cond (n == m) e (s.temps m) }
-
-abbrev pub with_object : Sizes → ℕ → Extent → Sizes
-unfolding definitions
-with_object s k e = record { objects = λ m. cond (k == m) e (s.objects m); temps = s.temps }
+location_at (Entry.Temp t) = TempAt t
+location_at (Entry.Name x) = location_of x
 
 -- an entry of the tables, and the tables with it changed
 abbrev pub entry_sized : Sizes → Entry → Extent
 unfolding definitions
-entry_sized s (Entry.Object k) = s.objects k
-entry_sized s (Entry.Temp n) = s.temps n
+entry_sized s e = s (location_at e)
 
 abbrev pub with_entry : Sizes → Entry → Extent → Sizes
 unfolding definitions
-with_entry s (Entry.Object k) e = with_object s k e
-with_entry s (Entry.Temp n) e = with_temp s n e
+with_entry s e x = put s (location_at e) x
 
 -- an entry with its extent
 abbrev pub kept_in : Sizes → Entry → Kept
@@ -39,11 +36,6 @@ kept_in s e = record { entry = e; extent = entry_sized s e }
 abbrev pub set_entry : Store → Entry → Extent → Store
 unfolding definitions
 set_entry z e x = record { sizes = with_entry z.sizes e x; log = z.log ++ kept_in z.sizes e ∷ [] }
-
--- an entry made the greater of what it is and of this
-abbrev pub raise_entry : Store → Entry → Extent → Store
-unfolding definitions
-raise_entry z e x = set_entry z e (greater x (entry_sized z.sizes e))
 
 -- the tables before the changes of a log, the last of which is taken back first
 abbrev pub taken_back : List Kept → Sizes → Sizes
@@ -61,51 +53,34 @@ abbrev pub since : ℕ → Store → List Kept
 unfolding definitions
 since n z = map (λ k. kept_in z.sizes k.entry) (drop n z.log)
 
--- the entries made what was kept, the greater of both, or left as they are and logged
-abbrev pub restored : List Kept → Store → Store
+-- ---- branches
+-- an entry made the greater of what it is and of this, which isn't logged where it stays what it is; and so each of these
+abbrev pub raise_entry : Store → Entry → Extent → Store
 unfolding definitions
-restored [] z = z
-restored (k ∷ ks) z = restored ks (set_entry z k.entry k.extent)
+raise_entry z e x = cond (no_more x (entry_sized z.sizes e)) z (set_entry z e (greater x (entry_sized z.sizes e)))
 
 abbrev pub raised : List Kept → Store → Store
 unfolding definitions
 raised [] z = z
 raised (k ∷ ks) z = raised ks (raise_entry z k.entry k.extent)
 
-abbrev pub touched : List Kept → Store → Store
-unfolding definitions
-touched [] z = z
-touched (k ∷ ks) z = touched ks (set_entry z k.entry (entry_sized z.sizes k.entry))
+abbrev mutual
+  unfolding definitions
 
--- ---- branches
--- after a branch against one that changes nothing, which begins where the log has n entries
-abbrev pub closed : ℕ → Store → Store
-unfolding definitions
-closed n z = raised (since n z) (back_to n z)
+  -- after others, the entries that a command may leave less than they were, of an `if` those of its first branch
+  pub kept_sets : Sizes → Command → List Kept → List Kept
+  kept_sets s Skip ks = ks
+  kept_sets s (Assign t e) ks = ks ++ kept_in s (Entry.Temp t) ∷ []
+  kept_sets s (Write x e) ks = ks ++ kept_in s (Entry.Name x) ∷ []
+  kept_sets s (Print e) ks = ks
+  kept_sets s (Seq cs) ks = kept_all s cs ks
+  kept_sets s (If b c d) ks = kept_sets s c ks
 
--- where the second branch begins, after the first: as before it, with the first's entries logged
-abbrev pub reopened : ℕ → Store → Store
-unfolding definitions
-reopened n z = touched (since n z) (back_to n z)
+  pub kept_all : Sizes → Commands → List Kept → List Kept
+  kept_all s NoCommand ks = ks
+  kept_all s (MoreCommand c cs) ks = kept_all s cs (kept_sets s c ks)
 
--- an entry as it was kept, or as it is now, whichever is more
-abbrev pub higher : Sizes → Kept → Kept
+-- what a branch that began where the log has n entries leaves of all that it or the other branch may leave less
+abbrev pub left_by : ℕ → Store → Command → List Kept
 unfolding definitions
-higher s k = record { entry = k.entry; extent = greater k.extent (entry_sized s k.entry) }
-
--- after the second branch, where these are the entries of the first as it left them
-abbrev pub both_branches : ℕ → List Kept → Store → Store
-unfolding definitions
-both_branches n first z =
-    let y : Store = restored first (back_to n z) in
-    restored (map (higher y.sizes) (since n z)) (back_to n y)
-
-abbrev pub branched : (Store → Store) → (Store → Store) → Store → Store
-unfolding definitions
-branched f g z = both_branches (length z.log) (since (length z.log) (f z)) (g (reopened (length z.log) (f z)))
-
--- a branch for each slot, one after another
-abbrev pub visited : (Slot → Store → Store) → List Slot → Store → Store
-unfolding definitions
-visited f [] z = z
-visited f (slot ∷ more) z = visited f more (closed (length z.log) (f slot z))
+left_by n z d = kept_sets z.sizes d (since n z)

@@ -1,26 +1,13 @@
 -- What is known of a walk on its way: what is left to follow, from which state, and which row it gives.
-use Rattle.std.specs.Prelude.{◌≡◌, ℤ, Bool, true, Option, Some, None, List, map, reverse}
+use Rattle.std.specs.Prelude.{◌≡◌, true, Option, List, map, reverse}
 use Rattle.std.specs.Borrow.{Bor}
 use Rattle.homeo_syntax.specs.declared.low.LCommand.{LCommand}
 use Rattle.homeo_syntax.specs.Low.{Expr, Command}
 use Rattle.homeo_syntax.specs.LowView.{low_commands, plain_lcommand}
-use Rattle.homeo_meaning.specs.LowMeaning.{Location, State, value}
+use Rattle.homeo_meaning.specs.LowMeaning.{Location, State}
 use Rattle.homeo_plan.specs.Table.{Row, last_row, walk_all_before}
-use Rattle.homeo_split.specs.CanExec.{run_limit, expr_fits, can_exec_all}
-
--- the value of an expression at s, or n where there is none
-abbrev pub value_or : ℤ → Option Expr → State → ℤ
-value_or n None s = n
-value_or n (Some e) s = value e s
-
--- the state where these expressions stand, which speak of state s
-abbrev pub after : (Location → Option Expr) → State → State
-after b s l = value_or (s l) (b l) s
-
--- an expression, if there is one, can be evaluated at s
-abbrev pub fits_if : Option Expr → State → Bool
-fits_if None s = true
-fits_if (Some e) s = expr_fits run_limit e s
+use Rattle.homeo_split.specs.CanExec.{run_limit, can_exec_all}
+pub use Rattle.homeo_table.specs.After.{value_or, after, fits_if}
 
 -- commands can be followed from the state where these expressions stand
 pub record CanFollow (b : Location → Option Expr) (cs : List Command) (s : State) : Type 0 where

@@ -14,7 +14,7 @@ use Rattle.homeo_follow.specs.declared.part.PlanPart.{PlanPart}
 use Rattle.homeo_build.specs.inner.Frozen.{frozen_from}
 use Rattle.homeo_build.proofs.ByObjects.{sets_asked, places_within, small_asked, template_is, none_frozen, frozen_next, all_frozen}
 use Rattle.homeo_build.proofs.Following.{shared_part, shared_atoms, brought_each, atoms_each, place_within, made_there}
-use Rattle.homeo_build.proofs.FormsMade.{form_here}
+use Rattle.homeo_build.proofs.FormsMade.{form_here, made_each}
 use Rattle.homeo_build.proofs.GroundCalls.{can_here}
 use Rattle.homeo_build.proofs.calls.object_template.Goals as goal
 
@@ -30,7 +30,7 @@ object_clauses-requires c =
     let atoms = atoms_each (values_of base) fs parts are in
     record {
       places = places_within shared_atoms w (values_of base) fs parts places c.as_slice-places.result.now forms atoms c.as_slice-places.ensures.value;
-      small = small_asked w base c.requires.accepted c.requires.within shared_atoms fs parts forms.made atoms;
+      small = small_asked w base c.requires.accepted c.requires.within shared_atoms fs parts (made_each w fs places c.requires.accepted forms) atoms;
     }
 
 pub bounds-places-i : goal.bounds-places-i

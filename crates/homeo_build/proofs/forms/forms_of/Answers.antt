@@ -6,7 +6,7 @@ use Rattle.homeo_syntax.specs.SourceView.{plain_workload}
 use Rattle.homeo_meaning.specs.Ground.{plain_ground}
 use Rattle.homeo_ground.specs.Grounding.{IsCalled}
 use Rattle.homeo_follow.specs.Named.{named}
-use Rattle.homeo_build.proofs.FormsMade.{made_each, keys_none, keys_next, forms_all, have_none, have_next, have_all}
+use Rattle.homeo_build.proofs.FormsMade.{keys_none, keys_next, forms_all, have_none, have_next, have_all}
 use Rattle.homeo_build.proofs.forms.forms_of.Goals as goal
 
 pub loop-call-init : goal.loop-call-init
@@ -51,7 +51,6 @@ returns-clause-forms c =
       are =
           forms_all w bodies.bodies.keys (map plain_lcommand bodies.forms.items) c.args.calls.now c.loop-call.call-index
           c.loop-call-test.false c.requires.calls c.loop-call.invariant.bodies c.loop-call.invariant.keys;
-      made = made_each w bodies.bodies.keys (map plain_lcommand bodies.forms.items) c.loop-call.invariant.bodies;
       placed =
           have_all w (map plain_lcommand bodies.forms.items) c.args.calls.now c.loop-call.call-index c.loop-call.places.items
           c.loop-call-test.false c.requires.calls c.loop-call.invariant.placed;

@@ -3,7 +3,7 @@ use Rattle.std.proofs.Common.{◌≡◌, [], map, take}
 use Rattle.homeo_syntax.specs.LowView.{plain_lcommand}
 use Rattle.homeo_syntax.specs.SourceView.{plain_workload}
 use Rattle.homeo_meaning.specs.Ground.{plain_ground}
-use Rattle.homeo_build.specs.Forms.{HaveForms, bodies_after}
+use Rattle.homeo_meaning.specs.Forms.{HaveForms, bodies_after}
 use Rattle.homeo_build.specs.inner.Bodies.{call_body, AreBodies}
 use Rattle.homeo_build.proofs.forms.forms_of.Given as goal
 

@@ -1,9 +1,10 @@
 -- The objects of the next form stand behind those of the others.
 use Rattle.std.proofs.Common.{map, ap, sym, ◌∙◌}
 use Rattle.std.proofs.lemmas.List.{take_all}
+use Rattle.std.proofs.lemmas.Simd.{map-map}
 use Rattle.homeo_syntax.specs.LowView.{plain_lcommand}
 use Rattle.homeo_follow.specs.Named.{named}
-use Rattle.homeo_build.proofs.Grown.{grown, map_map}
+use Rattle.homeo_build.proofs.Grown.{grown}
 use Rattle.homeo_build.proofs.names.names_of.Goals as goal
 
 pub loop-form-preserved : goal.loop-form-preserved
@@ -14,4 +15,4 @@ loop-form-preserved c =
 pub returns : goal.returns
 returns c =
     c.loop-form.invariant ∙ ap (map (λ f. named (plain_lcommand f))) (take_all c.loop-form.form-index c.args.forms.now c.loop-form-test.false)
-    ∙ sym (map_map plain_lcommand named c.args.forms.now)
+    ∙ sym (map-map named plain_lcommand c.args.forms.now)

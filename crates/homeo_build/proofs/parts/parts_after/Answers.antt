@@ -1,5 +1,5 @@
 -- Of each form what it brings is put behind the others, be it kept or made; what is kept is rebased.
-use Rattle.std.proofs.Common.{ℕ, rules, sym, subst, ap, true≢false, ◌∙◌}
+use Rattle.std.proofs.Common.{ℕ, rules, map, sym, subst, ap, true≢false, ◌∙◌}
 use Rattle.homeo_syntax.specs.LowView.{plain_lcommand}
 use Rattle.homeo_syntax.specs.SourceView.{plain_workload}
 use Rattle.homeo_meaning.specs.Serial.{values_of}
@@ -9,6 +9,7 @@ use Rattle.homeo_follow.specs.Brought.{brought, plain_part}
 use Rattle.homeo_build.specs.inner.Followed.{IsSmallAlong}
 use Rattle.homeo_follow.specs.Rebased.{rebased, gains}
 use Rattle.homeo_build.proofs.Following.{small_at, small_base, shared_part, shared_moved, lent_brought, forms_lent, parts_lent, names_lent, parts_all, all_moved, part_within, names_within, part_of, names_of, kept_stays, kept_rebased}
+use Rattle.homeo_build.proofs.FormsMade.{made_each}
 use Rattle.homeo_build.proofs.Grown.{grown}
 use Rattle.homeo_build.proofs.parts.parts_after.Goals.{then-are_rebased, else-are_rebased}
 use Rattle.homeo_build.proofs.parts.parts_after.Goals as goal
@@ -77,7 +78,7 @@ part_after-requires-clause-form c =
     let made = c.forms-forms.result.now in
     let forms = forms_lent w made.forms.items fs made.places.items c.as_slice-form-items.ensures c.forms-forms.ensures.forms in
     subst (λ b. IsSmallAlong (values_of b) (plain_lcommand c.form-item.result)) (sym c.loop-i.invariant.follower)
-    (small_at w c.args.base.now.items c.requires.accepted c.requires.within fs c.loop-i.i c.form-item.result forms.made
+    (small_at w c.args.base.now.items c.requires.accepted c.requires.within fs c.loop-i.i c.form-item.result (made_each w (map plain_lcommand fs) made.places.items c.requires.accepted forms)
     c.loop-i-test.true c.form-item.is)
 
 pub part_after-requires-clause-base : goal.part_after-requires-clause-base

@@ -1,5 +1,5 @@
 -- Of each form what it brings is put behind the others.
-use Rattle.std.proofs.Common.{ℕ, sym, ap, ◌∙◌, subst}
+use Rattle.std.proofs.Common.{ℕ, map, sym, ap, ◌∙◌, subst}
 use Rattle.homeo_syntax.specs.SourceView.{plain_workload}
 use Rattle.homeo_syntax.specs.LowView.{plain_lcommand}
 use Rattle.homeo_meaning.specs.Serial.{values_of}
@@ -8,6 +8,7 @@ use Rattle.homeo_plan.specs.Limit.{form_limit}
 use Rattle.homeo_follow.specs.Brought.{brought}
 use Rattle.homeo_build.specs.inner.Followed.{IsSmallAlong}
 use Rattle.homeo_build.proofs.Following.{small_at, small_base, shared_part, lent_brought, forms_lent, parts_all}
+use Rattle.homeo_build.proofs.FormsMade.{made_each}
 use Rattle.homeo_build.proofs.Grown.{grown}
 use Rattle.homeo_build.proofs.parts.parts_at.Goals as goal
 
@@ -18,7 +19,7 @@ part_at-requires-clause-form c =
     let made = c.forms.result.now in
     let forms = forms_lent w made.forms.items fs made.places.items c.as_slice-form-items.ensures c.forms.ensures.forms in
     subst (λ b. IsSmallAlong (values_of b) (plain_lcommand c.form-item.result)) (sym c.loop-form.invariant.follower)
-    (small_at w c.args.base.now.items c.requires.accepted c.requires.within fs c.loop-form.form-index c.form-item.result forms.made
+    (small_at w c.args.base.now.items c.requires.accepted c.requires.within fs c.loop-form.form-index c.form-item.result (made_each w (map plain_lcommand fs) made.places.items c.requires.accepted forms)
     c.loop-form-test.true c.form-item.is)
 
 pub part_at-requires-clause-base : goal.part_at-requires-clause-base

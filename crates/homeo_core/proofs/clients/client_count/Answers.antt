@@ -3,7 +3,7 @@ use Rattle.std.proofs.Common.{◌≡◌, ◌≤◌, length, map, ap, ◌∙◌, 
 use Rattle.homeo_lemmas.proofs.Lists.{length_map}
 use Rattle.homeo_syntax.specs.SourceView.{plain_client, plain_workload}
 use Rattle.homeo_syntax.specs.declared.workload.Workload.{Workload}
-use Rattle.homeo_core.proofs.FewClients.{clients_few}
+use Rattle.homeo_meaning.proofs.FewClients.{clients_few}
 use Rattle.homeo_core.proofs.clients.client_count.Goals as goal
 
 pub returns-clause-few : goal.returns-clause-few

@@ -14,20 +14,20 @@ pub find-transaction-requires : goal.find-transaction-requires
 find-transaction-requires c =
     subst (λ w. IsSome (slice_get (plain_workload w).transactions c.args.call.now.transaction)) (sym c.workload-workload.ensures.value) c.requires.exists
 
-pub form_transaction-requires : goal.form_transaction-requires
+pub form_call-requires : goal.form_call-requires
 unfolding meaning_definitions
-form_transaction-requires c =
+form_call-requires c =
     schema_fits c.args.w.now c.args.declared.now.schema (ap (λ d. d.schema) c.requires.declared) c.workload-workload.ensures.accepted
 
 pub returns-clause-form : goal.returns-clause-form
 unfolding meaning_definitions
 returns-clause-form c =
-    IfOk-weaker c.form_transaction.result _ _
+    IfOk-weaker c.form_call.result _ _
     (λ r e. call_formed c.args.w.now c.workload-workload.result.now (plain_ground c.args.call.now) c.find-transaction.result.now c.args.declared.now.schema c.as_slice.result.now (plain_lcommand r) c.workload-workload.ensures.value c.find-transaction.ensures (ap (λ d. d.schema) c.requires.declared) c.as_slice.ensures e)
-    c.form_transaction.ensures
+    c.form_call.ensures
 
 pub returns-clause-means : goal.returns-clause-means
 returns-clause-means c =
-    IfOk-weaker c.form_transaction.result _ _
+    IfOk-weaker c.form_call.result _ _
     (λ r e. means (plain_workload c.args.w.now) (plain_ground c.args.call.now) (plain_lcommand r) e)
     (returns-clause-form c)

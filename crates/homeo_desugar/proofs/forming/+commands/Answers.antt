@@ -162,11 +162,12 @@ form-returns-in-SetField t c =
     let n = c.args.next.now in
     let q = c.in-SetField.relation in
     let f = c.in-SetField.field in
-    let i = plain_expr c.in-SetField.index in
-    let e = plain_expr c.in-SetField.value in
+    let i = plain_expr c.deref-in-SetField.result.now in
+    let e = plain_expr c.deref-in-SetField-2.result.now in
+    let seen = ap plain_command c.in-SetField.is ∙ plain_SetField q c.in-SetField.index f c.in-SetField.value ∙ sym (λ j. s.SetField q (plain_expr (c.deref-in-SetField.ensures j)) f (plain_expr (c.deref-in-SetField-2.ensures j))) in
     let after = c.set_field.new.next in
     IfOk-weaker c.set_field.result _ _
-    (λ r h. command_formed x after n c.args.c.now (s.SetField q i f e) (plain_lcommand r) (ap plain_command c.in-SetField.is ∙ plain_SetField q c.in-SetField.index f c.in-SetField.value) (indexed_as (slots_of c.relation-slots.result) (slots x q.name) (map declared_range c.relation-slots.result.fields.now) (fields x q.name) f.name after (lift x i n) (lift x e) (plain_lcommand r) c.relation-slots.ensures.slots c.relation-slots.ensures.fields h))
+    (λ r h. command_formed x after n c.args.c.now (s.SetField q i f e) (plain_lcommand r) seen (indexed_as (slots_of c.relation-slots.result) (slots x q.name) (map declared_range c.relation-slots.result.fields.now) (fields x q.name) f.name after (lift x i n) (lift x e) (plain_lcommand r) c.relation-slots.ensures.slots c.relation-slots.ensures.fields h))
     c.set_field.ensures
 
 pub form-returns-in-SetRow : goal.form-returns-in-SetRow
@@ -176,10 +177,11 @@ form-returns-in-SetRow t c =
     let n = c.args.next.now in
     let row = c.in-SetRow.row in
     let f = c.in-SetRow.field in
-    let e = plain_expr c.in-SetRow.value in
+    let e = plain_expr c.deref-in-SetRow.result.now in
+    let seen = ap plain_command c.in-SetRow.is ∙ plain_SetRow row f c.in-SetRow.value ∙ sym (ap (λ v. s.SetRow row f (plain_expr v)) c.deref-in-SetRow.ensures) in
     let after = c.write_field.new.next in
     IfOk-weaker c.write_field.result _ _
-    (λ r h. command_formed x after n c.args.c.now (s.SetRow row f e) (plain_lcommand r) (ap plain_command c.in-SetRow.is ∙ plain_SetRow row f c.in-SetRow.value) (set_as (plain_slot c.row-slot.result) (x.rows row.name) f.name after (lift x e n) (plain_lcommand r) c.row-slot.ensures h))
+    (λ r h. command_formed x after n c.args.c.now (s.SetRow row f e) (plain_lcommand r) seen (set_as (plain_slot c.row-slot.result) (x.rows row.name) f.name after (lift x e n) (plain_lcommand r) c.row-slot.ensures h))
     c.write_field.ensures
 
 pub form-returns-in-Foreach : goal.form-returns-in-Foreach
@@ -189,10 +191,10 @@ form-returns-in-Foreach t c =
     let n = c.args.next.now in
     let row = c.in-Foreach.row in
     let q = c.in-Foreach.relation in
-    let b = plain_cond c.in-Foreach.test in
+    let b = plain_cond c.deref-in-Foreach.result.now in
     let body = commands (map plain_command c.as_slice-in-Foreach.result.now) in
     let after = c.foreach.new.next in
-    let seen = ap plain_command c.in-Foreach.is ∙ plain_Foreach row q c.in-Foreach.test c.in-Foreach.body ∙ sym (ap (λ l. s.Foreach row q b (commands (map plain_command l))) c.as_slice-in-Foreach.ensures) in
+    let seen = ap plain_command c.in-Foreach.is ∙ plain_Foreach row q c.in-Foreach.test c.in-Foreach.body ∙ sym (λ j. s.Foreach row q (plain_cond (c.deref-in-Foreach.ensures j)) (commands (map plain_command (c.as_slice-in-Foreach.ensures j)))) in
     IfOk-weaker c.foreach.result _ _
     (λ r h. command_formed x after n c.args.c.now (s.Foreach row q b body) (plain_lcommand r) seen (looped_as (hold_abort body) (λ slot. lift_cond (bind x row.name slot) b) (running x row.name body) (slots_of c.relation-slots-in-Foreach.result) (slots x q.name) after n (plain_lcommand r) c.relation-slots-in-Foreach.ensures.slots h))
     c.foreach.ensures
@@ -232,11 +234,12 @@ form-returns-in-Update t c =
     let row = c.in-Update.row in
     let q = c.in-Update.relation in
     let f = c.in-Update.field in
-    let b = plain_cond c.in-Update.test in
-    let e = plain_expr c.in-Update.value in
+    let b = plain_cond c.deref-in-Update.result.now in
+    let e = plain_expr c.deref-in-Update-2.result.now in
+    let seen = ap plain_command c.in-Update.is ∙ plain_Update row q c.in-Update.test f c.in-Update.value ∙ sym (λ j. s.Update row q (plain_cond (c.deref-in-Update.ensures j)) f (plain_expr (c.deref-in-Update-2.ensures j))) in
     let after = c.update.new.next in
     IfOk-weaker c.update.result _ _
-    (λ r h. command_formed x after n c.args.c.now (s.Update row q b f e) (plain_lcommand r) (ap plain_command c.in-Update.is ∙ plain_Update row q c.in-Update.test f c.in-Update.value) (looped_as false (λ slot. lift_cond (bind x row.name slot) b) (updating x row.name f.name e) (slots_of c.relation-slots-in-Update.result) (slots x q.name) after n (plain_lcommand r) c.relation-slots-in-Update.ensures.slots h))
+    (λ r h. command_formed x after n c.args.c.now (s.Update row q b f e) (plain_lcommand r) seen (looped_as false (λ slot. lift_cond (bind x row.name slot) b) (updating x row.name f.name e) (slots_of c.relation-slots-in-Update.result) (slots x q.name) after n (plain_lcommand r) c.relation-slots-in-Update.ensures.slots h))
     c.update.ensures
 
 pub form-returns-in-Abort : goal.form-returns-in-Abort

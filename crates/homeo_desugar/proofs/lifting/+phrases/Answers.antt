@@ -125,11 +125,13 @@ unfolding definitions meaning_definitions
 lift-returns-in-Count t c =
     let x = plain_context c.args.context.now in
     let row = c.in-Count.row in
-    let b = plain_cond c.in-Count.test in
+    let q = c.in-Count.relation in
+    let b = plain_cond c.deref-in-Count.result.now in
+    let seen = ap plain_expr c.in-Count.is ∙ plain_Count row q c.in-Count.test ∙ sym (ap (λ t. s.Count row q (plain_cond t)) c.deref-in-Count.ensures) in
     let old = c.args.out.now in
     let new = c.counted.new.out in
     IfOk-weaker c.counted.result _ _
-    (λ r h. expr_lifted x old new c.args.e.now (s.Count row c.in-Count.relation b) (plain_lexpr r) (ap plain_expr c.in-Count.is ∙ plain_Count row c.in-Count.relation c.in-Count.test) (counted_as (λ slot. lift_cond (bind x row.name slot) b) (term_of None) (slots_of c.relation-slots.result) (slots x c.in-Count.relation.name) old new (plain_lexpr r) c.relation-slots.ensures.slots h))
+    (λ r h. expr_lifted x old new c.args.e.now (s.Count row q b) (plain_lexpr r) seen (counted_as (λ slot. lift_cond (bind x row.name slot) b) (term_of None) (slots_of c.relation-slots.result) (slots x q.name) old new (plain_lexpr r) c.relation-slots.ensures.slots h))
     c.counted.ensures
 
 pub lift-returns-in-Total : goal.lift-returns-in-Total
@@ -138,11 +140,13 @@ lift-returns-in-Total t c =
     let x = plain_context c.args.context.now in
     let row = c.in-Total.row in
     let f = c.in-Total.field in
-    let b = plain_cond c.in-Total.test in
+    let q = c.in-Total.relation in
+    let b = plain_cond c.deref-in-Total.result.now in
+    let seen = ap plain_expr c.in-Total.is ∙ plain_Total row f q c.in-Total.test ∙ sym (ap (λ t. s.Total row f q (plain_cond t)) c.deref-in-Total.ensures) in
     let old = c.args.out.now in
     let new = c.counted-in-Total.new.out in
     IfOk-weaker c.counted-in-Total.result _ _
-    (λ r h. expr_lifted x old new c.args.e.now (s.Total row f c.in-Total.relation b) (plain_lexpr r) (ap plain_expr c.in-Total.is ∙ plain_Total row f c.in-Total.relation c.in-Total.test) (counted_as (λ slot. lift_cond (bind x row.name slot) b) (term_of (Some f.name)) (slots_of c.relation-slots-in-Total.result) (slots x c.in-Total.relation.name) old new (plain_lexpr r) c.relation-slots-in-Total.ensures.slots h))
+    (λ r h. expr_lifted x old new c.args.e.now (s.Total row f q b) (plain_lexpr r) seen (counted_as (λ slot. lift_cond (bind x row.name slot) b) (term_of (Some f.name)) (slots_of c.relation-slots-in-Total.result) (slots x q.name) old new (plain_lexpr r) c.relation-slots-in-Total.ensures.slots h))
     c.counted-in-Total.ensures
 
 pub lift_all-loop-e-init : goal.lift_all-loop-e-init

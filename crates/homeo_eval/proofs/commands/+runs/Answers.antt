@@ -1,4 +1,5 @@
 use Rattle.std.proofs.Common.{rules, arith, ◌≡◌, true, false, ◌&&◌, map, length, refl, sym, ap, subst, ◌∙◌}
+use Rattle.homeo_syntax.specs.Source as source
 use Rattle.homeo_syntax.specs.SourceView.{commands, plain_command, plain_cond, plain_expr}
 use Rattle.homeo_syntax.specs.declared.command.Command.TheViews.{the_lemmas}
 use Rattle.homeo_syntax.proofs.SourceViews.{command_views, plain_Foreach, plain_Delete, plain_Update}
@@ -124,8 +125,9 @@ pub run-foreach-requires : goal.run-foreach-requires
 run-foreach-requires t c =
     let x = plain_context c.args.context.now in
     let s = state_of c.args.state.now in
-    let whole = ap plain_command c.in-Foreach.is ∙ plain_Foreach c.in-Foreach.row c.in-Foreach.relation c.in-Foreach.test c.in-Foreach.body in
-    let fits = sym (ap (λ e. can_run weight_limit x e s) whole ∙ can_Foreach weight_limit x s c.in-Foreach.row c.in-Foreach.relation (plain_cond c.in-Foreach.test) (commands (map plain_command c.in-Foreach.body.items))) ∙ c.requires.runs in
+    let body = commands (map plain_command c.in-Foreach.body.items) in
+    let whole = ap plain_command c.in-Foreach.is ∙ plain_Foreach c.in-Foreach.row c.in-Foreach.relation c.in-Foreach.test c.in-Foreach.body ∙ sym (ap (λ t. source.Foreach c.in-Foreach.row c.in-Foreach.relation (plain_cond t) body) c.deref-in-Foreach.ensures) in
+    let fits = sym (ap (λ e. can_run weight_limit x e s) whole ∙ can_Foreach weight_limit x s c.in-Foreach.row c.in-Foreach.relation (plain_cond c.deref-in-Foreach.result.now) body) ∙ c.requires.runs in
     (search (rules, the_lemmas), (c.requires.serves, fits))
 
 pub run-returns-in-Delete-clause-run : goal.run-returns-in-Delete-clause-run
@@ -139,8 +141,8 @@ pub run-returns-in-Update-clause-run : goal.run-returns-in-Update-clause-run
 run-returns-in-Update-clause-run t c =
     let x = plain_context c.args.context.now in
     let s = state_of c.args.state.now in
-    let whole = ap plain_command c.in-Update.is ∙ plain_Update c.in-Update.row c.in-Update.relation c.in-Update.test c.in-Update.field c.in-Update.e in
-    run_Update x s _ c.args.prints.now.items c.in-Update.row c.in-Update.relation (plain_cond c.in-Update.test) c.in-Update.field (plain_expr c.in-Update.e) c.update.ensures.run ∙ sym (ap (λ e. after_prints c.args.prints.now.items (does x e s)) whole)
+    let whole = ap plain_command c.in-Update.is ∙ plain_Update c.in-Update.row c.in-Update.relation c.in-Update.test c.in-Update.field c.in-Update.e ∙ sym (λ j. source.Update c.in-Update.row c.in-Update.relation (plain_cond (c.deref-in-Update.ensures j)) c.in-Update.field (plain_expr (c.deref-in-Update-2.ensures j))) in
+    run_Update x s _ c.args.prints.now.items c.in-Update.row c.in-Update.relation (plain_cond c.deref-in-Update.result.now) c.in-Update.field (plain_expr c.deref-in-Update-2.result.now) c.update.ensures.run ∙ sym (ap (λ e. after_prints c.args.prints.now.items (does x e s)) whole)
 
 pub run_all-run-requires : goal.run_all-run-requires
 run_all-run-requires t c =

@@ -1,13 +1,14 @@
-use Rattle.std.proofs.Common.{rules, ◌≡◌, ◌+◌, ◌+ℤ◌, ◌*ℤ◌, ℤ, pos, true, false, cond, ◌&&◌, map, drop, w64, to_z, refl, sym, ap, ◌∙◌, subst}
-use Rattle.homeo_syntax.specs.SourceView.{exprs, tests, plain_expr, plain_test, plain_cond}
+use Rattle.std.proofs.Common.{rules, ◌≡◌, ◌+◌, ◌+ℤ◌, ◌*ℤ◌, ℤ, pos, true, false, cond, ◌&&◌, map, w64, to_z, refl, sym, ap, ◌∙◌, subst}
+use Rattle.homeo_syntax.specs.Source as source
+use Rattle.homeo_syntax.specs.SourceView.{tests, plain_expr, plain_test, plain_cond}
 use Rattle.homeo_syntax.specs.declared.phrase.Expr.{the_lemmas}
 use Rattle.homeo_syntax.proofs.SourceViews.{plain_Total, plain_conjunction}
 use Rattle.homeo_meaning.specs.Key.{definitions}
 use Rattle.homeo_meaning.specs.Acceptance.{weight_limit}
 use Rattle.homeo_meaning.specs.Context.{bind}
-use Rattle.homeo_meaning.specs.Meaning.{is_used, added, value, sum_value, product_value, holds}
+use Rattle.homeo_meaning.specs.Meaning.{is_used, added, value, holds}
 use Rattle.homeo_meaning.specs.Small.{is_small}
-use Rattle.homeo_eval.specs.inner.CanRun.{adding_fits, expr_fits, sum_fits, product_fits, cond_fits}
+use Rattle.homeo_eval.specs.inner.CanRun.{adding_fits, expr_fits, cond_fits}
 use Rattle.homeo_context.specs.Contexts.{plain_context}
 use Rattle.homeo_eval.specs.inner.States.{state_of}
 use Rattle.homeo_eval.specs.inner.Terms.{term_of, counts, row_fits}
@@ -15,61 +16,51 @@ use Rattle.homeo_eval.proofs.InForce.{context_bound}
 use Rattle.homeo_meaning.proofs.Numbers.{kept_is}
 use Rattle.homeo_context.proofs.SlotLists.{slot_of, left, slot_is, left_all}
 use Rattle.homeo_eval.proofs.SlotSteps.{add_step, add_stop, total_is, total_fits}
-use Rattle.homeo_eval.proofs.PhraseSteps.{sum_step, sum_stop, product_step, product_stop, test_step}
+use Rattle.homeo_eval.proofs.PhraseSteps.{sums, products, step, step_next, stop, test_step}
 use Rattle.homeo_eval.proofs.phrases.+phrases.Goals as goal
 use Rattle.homeo_eval.proofs.phrases.+phrases.Goals.{total-then-is_used+then-all_pass, total-then-is_used+else-all_pass, total-else-is_used}
 
 pub sum-value-requires : goal.sum-value-requires
 sum-value-requires t c =
-    (search (rules, the_lemmas), (sum_step c.args.es.now c.loop-e.e-index c.e-item.result c.loop-e-test.true c.e-item.is c.loop-e.invariant.fits).first)
+    (search (rules, the_lemmas), (step sums c.args.es.now c.loop-e.e-index c.e-item.result c.loop-e-test.true c.e-item.is c.loop-e.invariant.fits).first)
 
 pub sum-plus-total-requires : goal.sum-plus-total-requires
 sum-plus-total-requires t c =
-    let k = sum_step c.args.es.now c.loop-e.e-index c.e-item.result c.loop-e-test.true c.e-item.is c.loop-e.invariant.fits in
+    let k = step sums c.args.es.now c.loop-e.e-index c.e-item.result c.loop-e-test.true c.e-item.is c.loop-e.invariant.fits in
     let e = kept_is c.value.result _ (search rules) c.value.ensures in
     subst (λ v. is_small weight_limit (to_z w64 c.loop-e.total-bits +ℤ v) ≡ true) (sym e) k.small
 
 pub sum-loop-e-preserved : goal.sum-loop-e-preserved
 sum-loop-e-preserved t c =
-    let k = sum_step c.args.es.now c.loop-e.e-index c.e-item.result c.loop-e-test.true c.e-item.is c.loop-e.invariant.fits in
+    let k = step sums c.args.es.now c.loop-e.e-index c.e-item.result c.loop-e-test.true c.e-item.is c.loop-e.invariant.fits in
     let e = kept_is c.value.result _ (search rules) c.value.ensures in
     let n = kept_is c.plus-total.result _ (search rules) (c.plus-total.ensures ∙ ap (λ v. to_z w64 c.loop-e.total-bits +ℤ v) e) in
-    let x = plain_context c.args.context.now in
-    let s = state_of c.args.state.now in
-    let rest = exprs (map plain_expr (drop (c.loop-e.e-index + 1) c.args.es.now)) in
-    record {
-      fits = subst (λ n. sum_fits weight_limit x rest s n ≡ true) (sym n) k.rest;
-      left = ap (λ n. sum_value x rest s n) n ∙ k.same ∙ c.loop-e.invariant.left;
-    }
+    let q = step_next sums k n in
+    record { fits = q.0; left = q.1 ∙ c.loop-e.invariant.left }
 
 pub sum-returns : goal.sum-returns
-sum-returns t c = sum_stop _ _ _ c.args.es.now c.loop-e.e-index c.loop-e-test.false ∙ c.loop-e.invariant.left
+sum-returns t c = stop sums _ _ _ c.args.es.now c.loop-e.e-index c.loop-e-test.false ∙ c.loop-e.invariant.left
 
 pub product-value-requires : goal.product-value-requires
 product-value-requires t c =
-    (search (rules, the_lemmas), (product_step c.args.es.now c.loop-e.e-index c.e-item.result c.loop-e-test.true c.e-item.is c.loop-e.invariant.fits).first)
+    (search (rules, the_lemmas), (step products c.args.es.now c.loop-e.e-index c.e-item.result c.loop-e-test.true c.e-item.is c.loop-e.invariant.fits).first)
 
 pub product-times-total-requires : goal.product-times-total-requires
 product-times-total-requires t c =
-    let k = product_step c.args.es.now c.loop-e.e-index c.e-item.result c.loop-e-test.true c.e-item.is c.loop-e.invariant.fits in
+    let k = step products c.args.es.now c.loop-e.e-index c.e-item.result c.loop-e-test.true c.e-item.is c.loop-e.invariant.fits in
     let e = kept_is c.value.result _ (search rules) c.value.ensures in
     subst (λ v. is_small weight_limit (to_z w64 c.loop-e.total-bits *ℤ v) ≡ true) (sym e) k.small
 
 pub product-loop-e-preserved : goal.product-loop-e-preserved
 product-loop-e-preserved t c =
-    let k = product_step c.args.es.now c.loop-e.e-index c.e-item.result c.loop-e-test.true c.e-item.is c.loop-e.invariant.fits in
+    let k = step products c.args.es.now c.loop-e.e-index c.e-item.result c.loop-e-test.true c.e-item.is c.loop-e.invariant.fits in
     let e = kept_is c.value.result _ (search rules) c.value.ensures in
     let n = kept_is c.times-total.result _ (search rules) (c.times-total.ensures ∙ ap (λ v. to_z w64 c.loop-e.total-bits *ℤ v) e) in
-    let x = plain_context c.args.context.now in
-    let s = state_of c.args.state.now in
-    let rest = exprs (map plain_expr (drop (c.loop-e.e-index + 1) c.args.es.now)) in
-    record {
-      fits = subst (λ n. product_fits weight_limit x rest s n ≡ true) (sym n) k.rest;
-      left = ap (λ n. product_value x rest s n) n ∙ k.same ∙ c.loop-e.invariant.left;
-    }
+    let q = step_next products k n in
+    record { fits = q.0; left = q.1 ∙ c.loop-e.invariant.left }
 
 pub product-returns : goal.product-returns
-product-returns t c = product_stop _ _ _ c.args.es.now c.loop-e.e-index c.loop-e-test.false ∙ c.loop-e.invariant.left
+product-returns t c = stop products _ _ _ c.args.es.now c.loop-e.e-index c.loop-e-test.false ∙ c.loop-e.invariant.left
 
 pub all_pass-passes-requires : goal.all_pass-passes-requires
 all_pass-passes-requires t c =
@@ -154,11 +145,13 @@ total-returns t c =
 pub value-total-requires-in-Total : goal.value-total-requires-in-Total
 unfolding definitions
 value-total-requires-in-Total t c =
-    let fits = sym (ap (λ e. expr_fits weight_limit (plain_context c.args.context.now) e (state_of c.args.state.now)) (ap plain_expr c.in-Total.is ∙ plain_Total c.in-Total.row c.in-Total.field c.in-Total.relation c.in-Total.test)) ∙ c.requires in
+    let seen = ap plain_expr c.in-Total.is ∙ plain_Total c.in-Total.row c.in-Total.field c.in-Total.relation c.in-Total.test ∙ sym (ap (λ t. source.Total c.in-Total.row c.in-Total.field c.in-Total.relation (plain_cond t)) c.deref-in-Total.ensures) in
+    let fits = sym (ap (λ e. expr_fits weight_limit (plain_context c.args.context.now) e (state_of c.args.state.now)) seen) ∙ c.requires in
     (search (rules, the_lemmas), (c.relation-slots-in-Total.ensures.counted, total_fits weight_limit _ _ (state_of c.args.state.now) c.in-Total.field.name c.field-in-Total.result.place c.relation-slots-in-Total.result _ (pos 0) c.relation-slots-in-Total.ensures.slots (ap (λ f. f.place) c.field-in-Total.ensures) fits))
 
 pub value-returns-in-Total : goal.value-returns-in-Total
 unfolding definitions
 value-returns-in-Total t c =
-    let whole = ap (λ e. value (plain_context c.args.context.now) e (state_of c.args.state.now)) (ap plain_expr c.in-Total.is ∙ plain_Total c.in-Total.row c.in-Total.field c.in-Total.relation c.in-Total.test) in
+    let seen = ap plain_expr c.in-Total.is ∙ plain_Total c.in-Total.row c.in-Total.field c.in-Total.relation c.in-Total.test ∙ sym (ap (λ t. source.Total c.in-Total.row c.in-Total.field c.in-Total.relation (plain_cond t)) c.deref-in-Total.ensures) in
+    let whole = ap (λ e. value (plain_context c.args.context.now) e (state_of c.args.state.now)) seen in
     kept_is c.total-in-Total.result _ (search rules) (c.total-in-Total.ensures ∙ total_is _ (state_of c.args.state.now) c.in-Total.field.name c.field-in-Total.result.place c.relation-slots-in-Total.result _ (pos 0) c.relation-slots-in-Total.ensures.slots (ap (λ f. f.place) c.field-in-Total.ensures) ∙ sym whole)

@@ -1,4 +1,4 @@
-use Rattle.std.proofs.Common.{rules, ◌≡◌, map, length, refl, ap, sym, subst, ◌∙◌}
+use Rattle.std.proofs.Common.{rules, ◌≡◌, ℕ, ℤ, pos, map, length, refl, ap, sym, subst, ◌∙◌}
 use Rattle.homeo_syntax.specs.SourceView.{commands, plain_command}
 use Rattle.homeo_syntax.specs.Source.{Commands}
 use Rattle.homeo_meaning.specs.Key.{definitions}
@@ -14,12 +14,19 @@ use Rattle.homeo_eval.proofs.Outcomes.{body_starts, body_ran, settles_on, settle
 use Rattle.homeo_eval.proofs.States.{state_with}
 use Rattle.homeo_meaning.proofs.Within.{length_in}
 use Rattle.homeo_meaning.specs.Serial.{start}
+use Rattle.homeo_meaning.specs.Windowed.{item_at}
 use Rattle.homeo_eval.proofs.runs.run_body.Goals as goal
 use Rattle.homeo_eval.proofs.runs.run_body.Goals.{After-new-prints, then-not-ended, else-not-ended}
 
 -- ---- before the run
 abbrev body : After-new-prints → Commands
 body e = commands (map plain_command e.args.body.now)
+
+abbrev temps : After-new-prints → ℕ → ℤ
+temps e n = item_at e.new.result n (pos 0)
+
+no_temps : (e : After-new-prints) (n : ℕ) → temps e n ≡ pos 0
+no_temps e n = e.new.ensures n (pos 0)
 
 copied : (e : After-new-prints) → e.in_ok-copied.field-0.items ≡ e.args.base.now.items
 copied e = e.in_ok-copied.ensures ∙ e.as_slice.ensures
@@ -46,24 +53,24 @@ pub run_all-requires-clause-runs : goal.run_all-requires-clause-runs
 unfolding definitions
 run_all-requires-clause-runs c =
     let e = (goal.at.run_all-requires-clause-runs c).After-new-prints in
-    ap (λ x. can_run_all weight_limit x (body e) (state_with e.in_ok-copied.field-0.items e.new.result.items)) (context_is e)
-    ∙ ap (can_run_all weight_limit (call_context e.args.declared.now e.args.arguments.now) (body e)) (sym (body_starts e.args.base.now.items _ _ (copied e) e.new.ensures.items))
+    ap (λ x. can_run_all weight_limit x (body e) (state_with e.in_ok-copied.field-0.items (temps e))) (context_is e)
+    ∙ ap (can_run_all weight_limit (call_context e.args.declared.now e.args.arguments.now) (body e)) (sym (body_starts e.args.base.now.items _ _ (copied e) (no_temps e)))
     ∙ c.requires.runs
 
 pub returns-clause-prints : goal.returns-clause-prints
 unfolding definitions
 returns-clause-prints c =
     let e = (goal.at.returns-clause-prints c).After-new-prints in
-    let ran = c.in_ok-ended.ensures.run ∙ ap (λ x. after_prints e.new-prints.result.items (does_all x (body e) (state_with e.in_ok-copied.field-0.items e.new.result.items))) (context_is e) in
-    ap (λ r. r.prints) (body_ran e.args.declared.now e.args.arguments.now (body e) e.args.base.now.items _ _ c.run_all.new.prints.items _ (state_of c.run_all.new.state) c.in_ok-ended.ended (copied e) e.new.ensures.items (ap (λ l. l.items) e.new-prints.ensures) ran)
+    let ran = c.in_ok-ended.ensures.run ∙ ap (λ x. after_prints e.new-prints.result.items (does_all x (body e) (state_with e.in_ok-copied.field-0.items (temps e)))) (context_is e) in
+    ap (λ r. r.prints) (body_ran e.args.declared.now e.args.arguments.now (body e) e.args.base.now.items _ _ c.run_all.new.prints.items _ (state_of c.run_all.new.state) c.in_ok-ended.ended (copied e) (no_temps e) (ap (λ l. l.items) e.new-prints.ensures) ran)
 
 pub returns-clause-database : goal.returns-clause-database
 unfolding definitions
 returns-clause-database c =
     let e = (goal.at.returns-clause-database c).After-new-prints in
     let base = e.args.base.now.items in
-    let ran = c.in_ok-ended.ensures.run ∙ ap (λ x. after_prints e.new-prints.result.items (does_all x (body e) (state_with e.in_ok-copied.field-0.items e.new.result.items))) (context_is e) in
-    let whole = body_ran e.args.declared.now e.args.arguments.now (body e) base _ _ c.run_all.new.prints.items _ (state_of c.run_all.new.state) c.in_ok-ended.ended (copied e) e.new.ensures.items (ap (λ l. l.items) e.new-prints.ensures) ran in
+    let ran = c.in_ok-ended.ensures.run ∙ ap (λ x. after_prints e.new-prints.result.items (does_all x (body e) (state_with e.in_ok-copied.field-0.items (temps e)))) (context_is e) in
+    let whole = body_ran e.args.declared.now e.args.arguments.now (body e) base _ _ c.run_all.new.prints.items _ (state_of c.run_all.new.state) c.in_ok-ended.ended (copied e) (no_temps e) (ap (λ l. l.items) e.new-prints.ensures) ran in
     let meant = does_all (call_context e.args.declared.now e.args.arguments.now) (body e) (start base) in
     elim c.if-not-ended.branch [
       | then-not-ended w ↦ ap (λ l. l.items) (w.base-is ∙ w.from_vec.ensures)

@@ -11,7 +11,8 @@ use Rattle.homeo_plan.specs.Key.{definitions as plan_definitions}
 use Rattle.homeo_plan.specs.Linear.{constant_form, add_forms}
 use Rattle.homeo_form.specs.Standing.{forms_of}
 use Rattle.homeo_form.proofs.FormSteps.{one_is_small}
-use Rattle.homeo_form.proofs.CheckedSteps.{made, not_made, got, got_small, gone, literal_checked, stands_checked, neg_checked, neg_gone, sum_start, sum_gone, sum_over, sum_more, sum_end, product_start, product_gone, product_over, product_more, product_end}
+use Rattle.homeo_form.proofs.CheckedSteps.{made, not_made, got, got_small, gone, literal_checked, stands_checked, neg_checked, neg_gone}
+use Rattle.homeo_form.proofs.Folds.{sums, products, fold_start, part_gone, part_over, part_more, fold_end}
 use Rattle.homeo_form.proofs.checked.+checked.Goals as goal
 
 pub checked_form-times-requires-clause-factor : goal.checked_form-times-requires-clause-factor
@@ -53,12 +54,12 @@ checked_form-returns-in-None t c =
     (gone f (plain_lexpr c.deref.result.now) c.in_ok-part-in-Neg.field-0 c.in-None.is c.in_ok-part-in-Neg.ensures)
 
 pub checked_sum-loop-e-init : goal.checked_sum-loop-e-init
-checked_sum-loop-e-init t c = sum_start (forms_of c.args.standing.now) c.args.es.now c.new-total.result c.new-total.ensures
+checked_sum-loop-e-init t c = fold_start (sums (forms_of c.args.standing.now)) c.args.es.now c.new-total.result c.new-total.ensures
 
 pub checked_sum-returns-in_default : goal.checked_sum-returns-in_default
 checked_sum-returns-in_default t c =
     let f = forms_of c.args.standing.now in
-    sum_gone f c.args.es.now c.loop-e.e-index c.loop-e.total c.e-item.result c.loop-e-test.true c.e-item.is c.loop-e.invariant
+    part_gone (sums f) c.args.es.now c.loop-e.e-index c.loop-e.total c.e-item.result c.loop-e-test.true c.e-item.is c.loop-e.invariant
     (gone f (plain_lexpr c.e-item.result) c.in_ok-part.field-0 c.in_default.is c.in_ok-part.ensures)
 
 pub checked_sum-plus-requires : goal.checked_sum-plus-requires
@@ -70,7 +71,7 @@ checked_sum-returns-in_default-2 t c =
     let f = forms_of c.args.standing.now in
     let g = got f (plain_lexpr c.e-item.result) c.in_ok-part.field-0 c.in-Some.part c.in-Some.is c.in_ok-part.ensures in
     let more = add_forms c.in-Some.part c.loop-e.total in
-    sum_over f c.args.es.now c.loop-e.e-index c.loop-e.total c.e-item.result c.loop-e-test.true c.e-item.is c.loop-e.invariant c.in-Some.part more g.1 refl
+    part_over (sums f) c.args.es.now c.loop-e.e-index c.loop-e.total c.e-item.result c.loop-e-test.true c.e-item.is c.loop-e.invariant c.in-Some.part more g.1 refl
     (not_made more c.in_ok-more.field-0 c.in_default-2.is c.in_ok-more.ensures)
 
 pub checked_sum-loop-e-preserved : goal.checked_sum-loop-e-preserved
@@ -78,22 +79,22 @@ checked_sum-loop-e-preserved t c =
     let f = forms_of c.args.standing.now in
     let g = got f (plain_lexpr c.e-item.result) c.in_ok-part.field-0 c.in-Some.part c.in-Some.is c.in_ok-part.ensures in
     let m = made (add_forms c.in-Some.part c.loop-e.total) c.in-Some-2.more c.in_ok-more.field-0 c.in-Some-2.is c.in_ok-more.ensures in
-    sum_more f c.args.es.now c.loop-e.e-index c.loop-e.total c.e-item.result c.loop-e-test.true c.e-item.is c.loop-e.invariant c.in-Some.part c.in-Some-2.more g.1
+    part_more (sums f) c.args.es.now c.loop-e.e-index c.loop-e.total c.e-item.result c.loop-e-test.true c.e-item.is c.loop-e.invariant c.in-Some.part c.in-Some-2.more g.1
     m.1 g.0 (subst (Numbers (IsSmall form_limit)) (sym m.1) m.0)
 
 pub checked_sum-returns : goal.checked_sum-returns
 checked_sum-returns t c =
     let f = forms_of c.args.standing.now in
-    let e = sum_end f c.args.es.now c.loop-e.e-index c.loop-e.total c.loop-e-test.false c.loop-e.invariant in
+    let e = fold_end (sums f) c.args.es.now c.loop-e.e-index c.loop-e.total c.loop-e-test.false c.loop-e.invariant in
     (e.0, c.in_ok-form.ensures ∙ e.1)
 
 pub checked_product-loop-e-init : goal.checked_product-loop-e-init
-checked_product-loop-e-init t c = product_start (forms_of c.args.standing.now) c.args.es.now c.number-total.result c.number-total.ensures
+checked_product-loop-e-init t c = fold_start (products (forms_of c.args.standing.now)) c.args.es.now c.number-total.result c.number-total.ensures
 
 pub checked_product-returns-in_default : goal.checked_product-returns-in_default
 checked_product-returns-in_default t c =
     let f = forms_of c.args.standing.now in
-    product_gone f c.args.es.now c.loop-e.e-index c.loop-e.total c.e-item.result c.loop-e-test.true c.e-item.is c.loop-e.invariant
+    part_gone (products f) c.args.es.now c.loop-e.e-index c.loop-e.total c.e-item.result c.loop-e-test.true c.e-item.is c.loop-e.invariant
     (gone f (plain_lexpr c.e-item.result) c.in_ok-part.field-0 c.in_default.is c.in_ok-part.ensures)
 
 pub checked_product-by-requires-clause-small : goal.checked_product-by-requires-clause-small
@@ -107,15 +108,15 @@ pub checked_product-returns-in_default-kept : goal.checked_product-returns-in_de
 checked_product-returns-in_default-kept t c =
     let f = forms_of c.args.standing.now in
     let g = got f (plain_lexpr c.e-item.result) c.in_ok-part.field-0 c.in-Some.part c.in-Some.is c.in_ok-part.ensures in
-    product_over f c.args.es.now c.loop-e.e-index c.loop-e.total c.e-item.result c.loop-e-test.true c.e-item.is c.loop-e.invariant c.in-Some.part c.in_ok-more.more g.1
+    part_over (products f) c.args.es.now c.loop-e.e-index c.loop-e.total c.e-item.result c.loop-e-test.true c.e-item.is c.loop-e.invariant c.in-Some.part c.in_ok-more.more g.1
     c.in_ok-more.ensures c.in_default-kept.ensures
 
 pub checked_product-loop-e-preserved : goal.checked_product-loop-e-preserved
 checked_product-loop-e-preserved t c =
     let f = forms_of c.args.standing.now in
     let g = got f (plain_lexpr c.e-item.result) c.in_ok-part.field-0 c.in-Some.part c.in-Some.is c.in_ok-part.ensures in
-    product_more f c.args.es.now c.loop-e.e-index c.loop-e.total c.e-item.result c.loop-e-test.true c.e-item.is c.loop-e.invariant c.in-Some.part c.in-Some-kept.more g.1
+    part_more (products f) c.args.es.now c.loop-e.e-index c.loop-e.total c.e-item.result c.loop-e-test.true c.e-item.is c.loop-e.invariant c.in-Some.part c.in-Some-kept.more g.1
     (c.in-Some-kept.ensures.1 ∙ c.in_ok-more.ensures) g.0 (subst (Numbers (IsSmall form_limit)) (sym c.in-Some-kept.ensures.1) c.in-Some-kept.ensures.0)
 
 pub checked_product-returns : goal.checked_product-returns
-checked_product-returns t c = product_end (forms_of c.args.standing.now) c.args.es.now c.loop-e.e-index c.loop-e.total c.loop-e-test.false c.loop-e.invariant
+checked_product-returns t c = fold_end (products (forms_of c.args.standing.now)) c.args.es.now c.loop-e.e-index c.loop-e.total c.loop-e-test.false c.loop-e.invariant

@@ -1,5 +1,5 @@
 -- Each kind of test, and one more test of a condition.
-use Rattle.std.proofs.Common.{rules, not, sym, ap, ap₂, ◌∙◌, refl}
+use Rattle.std.proofs.Common.{rules, not, sym, ap, ap₂, ◌∙◌}
 use Rattle.std.specs.Int.{w128}
 use Rattle.std.proofs.lemmas.Int.{to_z-of_z}
 use Rattle.homeo_syntax.specs.declared.low.LTest.{the_lemmas}

@@ -6,8 +6,8 @@ use Rattle.homeo_syntax.specs.LowView.{plain_lcommand}
 use Rattle.homeo_syntax.specs.SourceView.{plain_workload}
 use Rattle.homeo_meaning.specs.Ground.{plain_ground}
 use Rattle.homeo_meaning.specs.Whole.{IsWhole}
+use Rattle.homeo_lform.proofs.Wholes.{ground_whole}
 use Rattle.homeo_plan.specs.Split.{shift}
-use Rattle.homeo_plan.proofs.GroundForms.{ground_whole}
 use Rattle.homeo_plan_tests.proofs.CallExample.{can_run, has_sites, can_fold}
 use Rattle.homeo_plan_tests.proofs.calls.run_first.Goals as goal
 

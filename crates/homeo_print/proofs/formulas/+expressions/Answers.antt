@@ -3,7 +3,7 @@ use Rattle.homeo_syntax.specs.Source as s
 use Rattle.homeo_syntax.specs.SourceView.{plain_workload}
 use Rattle.homeo_syntax.specs.LowView.{low_exprs, plain_lexpr}
 use Rattle.homeo_syntax.specs.declared.low.LExpr.{LExpr}
-use Rattle.homeo_print.specs.declared.phrases.Position.TheVariants as position
+use Rattle.homeo_print.specs.declared.position.Position.TheVariants as position
 use Rattle.homeo_print.specs.Tables.{sum_text, product_text}
 use Rattle.homeo_print.specs.inner.Walk.{expr_text_in}
 use Rattle.homeo_print.proofs.FormulaSteps.{terms_behind, factors_behind, no_terms, no_factors, no_sum, no_product, sum_is, product_is}

@@ -15,16 +15,16 @@ use Rattle.homeo_print.specs.Names.{numbers_text}
 use Rattle.homeo_print.specs.inner.Clauses.{slack_in, bounds_or}
 use Rattle.homeo_print.proofs.treaties.push_bounds_in.Goals as goal
 
-pub push_even_bounds-requires-clause-not_negative : goal.push_even_bounds-requires-clause-not_negative
+pub push-requires-clause-not_negative : goal.push-requires-clause-not_negative
 unfolding definitions
-push_even_bounds-requires-clause-not_negative c =
+push-requires-clause-not_negative c =
     let fits : SFits w128 c.slack_in.result = search rules in
     subst (λ z. pos 0 ≤ℤ z) (sym (to_z-of_z w128 c.slack_in.result fits ∙ c.slack_in.ensures))
     (c.requires.bounds.not_negative c.args.clause c.requires.clause)
 
-pub push_even_bounds-requires-clause-small : goal.push_even_bounds-requires-clause-small
+pub push-requires-clause-small : goal.push-requires-clause-small
 unfolding definitions
-push_even_bounds-requires-clause-small c =
+push-requires-clause-small c =
     let fits : SFits w128 c.slack_in.result = search rules in
     subst (IsSmall form_limit) (sym (to_z-of_z w128 c.slack_in.result fits ∙ c.slack_in.ensures))
     (c.requires.bounds.small c.args.clause c.requires.clause)
@@ -39,7 +39,7 @@ returns-in-None c =
     let sites = c.sites.ensures ∙ ap (λ (o : Outlined). o.sites) c.deref.ensures in
     let bounds = ap₂ (λ k z. split (replicate k 1) z) sites slack
     ∙ sym (ap (λ given. bounds_or (split (replicate p.outline.value.sites 1) (slack_in p n)) given n) c.in-None.is) in
-    subst (λ bs. OnOk c.push_even_bounds.result (c.push_even_bounds.new.out.items ≡ c.args.out.now.items ++ numbers_text bs)) bounds c.push_even_bounds.ensures
+    subst (λ bs. OnOk c.push.result (c.push.new.out.items ≡ c.args.out.now.items ++ numbers_text bs)) bounds c.push.ensures
 
 pub returns-in-Some : goal.returns-in-Some
 unfolding definitions

@@ -6,7 +6,7 @@ use Rattle.homeo_print.proofs.treaties.push_terms.Goals as goal
 
 pub loop-term-preserved : goal.loop-term-preserved
 loop-term-preserved c =
-    term_more (plain_workload c.args.w.now) c.args.sites c.args.terms.now c.loop-term.out.items _ c.loop-term.term-index _ c.loop-term-test.true c.in_ok-push_term.ensures
+    term_more (plain_workload c.args.w.now) c.args.sites c.args.terms.now c.loop-term.out.items _ c.loop-term.term-index _ c.loop-term-test.true c.in_ok-push.ensures
     ∙ c.loop-term.invariant
 
 pub returns : goal.returns

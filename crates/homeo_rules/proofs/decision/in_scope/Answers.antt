@@ -1,5 +1,9 @@
-use Rattle.std.proofs.Common.{◌∙◌, ap, map}
+use Rattle.std.proofs.Common.{◌∙◌, IfOk, ap, map, subst, sym}
+use Rattle.homeo_syntax.specs.LowView.{plain_lcommand}
+use Rattle.homeo_syntax.specs.SourceView.{plain_workload}
+use Rattle.homeo_meaning.specs.Forms.{AreForms}
 use Rattle.homeo_ground.specs.Sited.{sited}
+use Rattle.homeo_rules.specs.inner.Decided.{fault_of}
 use Rattle.homeo_rules.proofs.Joining.{calls-are, grounds-are, places-are}
 use Rattle.homeo_rules.proofs.decision.in_scope.Goals as goal
 
@@ -13,6 +17,12 @@ with_calls-requires-clause-grounds c =
     ap (map sited) c.as_slice-4.ensures.value
     ∙ grounds-are c.args.w.now c.in_ok-numbered.numbered.calls.items c.as_slice-2.result.now c.in_ok-numbered.ensures.calls c.as_slice-2.ensures
 
-pub returns-clause-places : goal.returns-clause-places
-returns-clause-places c =
-    places-are c.args.w.now _ c.in_ok-numbered.numbered.calls.items c.as_slice-2.result.now c.in_ok-numbered.ensures.calls c.in_ok-numbered.ensures.places c.as_slice-2.ensures
+pub returns-in-Err-clause-fault : goal.returns-in-Err-clause-fault
+returns-in-Err-clause-fault c = sym (ap fault_of c.in-Err.is) ∙ c.in_ok-decided.ensures.fault
+
+pub returns-clause-findings : goal.returns-clause-findings
+returns-clause-findings c =
+    record {
+      calls = places-are c.args.w.now _ c.in_ok-numbered.numbered.calls.items c.as_slice-2.result.now c.in_ok-numbered.ensures.calls c.in_ok-numbered.ensures.places c.as_slice-2.ensures;
+      forms = subst (λ r. IfOk r (λ f. AreForms (plain_workload c.args.w.now) (map plain_lcommand f.forms.items) f.places.items)) c.in-Ok.is c.in_ok-decided.ensures.forms;
+    }

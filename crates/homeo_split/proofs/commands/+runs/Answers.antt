@@ -1,5 +1,5 @@
 -- Branches, and one more command of a list.
-use Rattle.std.proofs.Common.{rules, arith, sym, ap, ◌∙◌}
+use Rattle.std.proofs.Common.{rules, arith, refl, sym, ap, ◌∙◌}
 use Rattle.homeo_syntax.specs.declared.low.LCommand.TheViews.{the_lemmas}
 use Rattle.homeo_syntax.specs.LowView.{plain_lcommand}
 use Rattle.homeo_syntax.proofs.LowViews.{low_command_views}
@@ -8,13 +8,13 @@ use Rattle.homeo_split.specs.Shape.{has_places}
 use Rattle.homeo_split.proofs.CommandSteps.{can_Seq, has_Seq, can_first, has_parts, run_step, has_yes, has_no, takes_yes, takes_no}
 use Rattle.homeo_split.proofs.commands.+runs.Goals as goal
 
-pub run-run-requires : goal.run-run-requires
-run-run-requires g t c =
-    λ κs lives. (search (rules, the_lemmas), (lives, (has_yes run_limit _ (g.S.Reads.values c.args.state.now) c.in-If.is c.requires.places c.deref.ensures, takes_yes _ (g.S.Store.shape c.args.state.now) _ c.in-If.is c.requires.runs c.deref.ensures (sym c.holds.ensures ∙ c.if-holds.true))))
+pub run-run_branch-requires : goal.run-run_branch-requires
+run-run_branch-requires g t c =
+    λ κs lives. (search (rules, the_lemmas), (lives, (has_yes run_limit _ (g.S.Reads.values c.args.state.now) c.in-If.is c.requires.places refl, takes_yes _ (g.S.Store.shape c.args.state.now) _ c.in-If.is c.requires.runs refl (sym c.holds.ensures ∙ c.if-holds.true))))
 
-pub run-run-requires-else-holds : goal.run-run-requires-else-holds
-run-run-requires-else-holds g t c =
-    λ κs lives. (search (rules, the_lemmas), (lives, (has_no run_limit _ (g.S.Reads.values c.args.state.now) c.in-If.is c.requires.places c.deref-else-holds.ensures, takes_no _ (g.S.Store.shape c.args.state.now) _ c.in-If.is c.requires.runs c.deref-else-holds.ensures (sym c.holds.ensures ∙ c.if-holds.false))))
+pub run-run_branch-requires-else-holds : goal.run-run_branch-requires-else-holds
+run-run_branch-requires-else-holds g t c =
+    λ κs lives. (search (rules, the_lemmas), (lives, (has_no run_limit _ (g.S.Reads.values c.args.state.now) c.in-If.is c.requires.places refl, takes_no _ (g.S.Store.shape c.args.state.now) _ c.in-If.is c.requires.runs refl (sym c.holds.ensures ∙ c.if-holds.false))))
 
 pub run-run_all-requires : goal.run-run_all-requires
 run-run_all-requires g t c = λ κs lives. (search (rules, the_lemmas), (lives, (grind (arith, low_command_views, has_Seq), grind (arith, low_command_views, can_Seq))))

@@ -1,14 +1,14 @@
 -- Negations, and one more term or factor.
-use Rattle.std.proofs.Common.{rules, ◌≡◌, ◌+◌, ◌+ℤ◌, ◌*ℤ◌, true, map, drop, w64, to_z, sym, ap, ◌∙◌, subst}
-use Rattle.homeo_syntax.specs.LowView.{low_exprs, plain_lexpr}
+use Rattle.std.proofs.Common.{rules, ◌≡◌, ◌+ℤ◌, ◌*ℤ◌, true, w64, to_z, sym, ap, ◌∙◌, subst}
+use Rattle.homeo_syntax.specs.LowView.{plain_lexpr}
 use Rattle.homeo_syntax.specs.declared.low.LExpr.{the_lemmas}
 use Rattle.homeo_syntax.proofs.LowViews.{low_Neg}
-use Rattle.homeo_split.specs.CanExec.{run_limit, sum_fits, product_fits}
-use Rattle.homeo_meaning.specs.LowMeaning.{value, sum_value, product_value}
+use Rattle.homeo_split.specs.CanExec.{run_limit}
+use Rattle.homeo_meaning.specs.LowMeaning.{value}
 use Rattle.homeo_meaning.specs.Small.{is_small}
 use Rattle.homeo_split.proofs.Equations.{value_Neg}
 use Rattle.homeo_meaning.proofs.Numbers.{kept_is}
-use Rattle.homeo_split.proofs.Steps.{sum_step, sum_stop, product_step, product_stop}
+use Rattle.homeo_split.proofs.Steps.{sums, products, step, step_next, stop}
 use Rattle.homeo_split.proofs.phrases.+values.Goals as goal
 
 pub value-returns-in-Neg : goal.value-returns-in-Neg
@@ -19,50 +19,42 @@ value-returns-in-Neg g t c =
 
 pub sum-value-requires : goal.sum-value-requires
 sum-value-requires g t c =
-    λ κs lives. (search (rules, the_lemmas), (lives, (sum_step c.args.es.now c.loop-e.e-index c.e-item.result c.loop-e-test.true c.e-item.is c.loop-e.invariant.fits).first))
+    λ κs lives. (search (rules, the_lemmas), (lives, (step sums c.args.es.now c.loop-e.e-index c.e-item.result c.loop-e-test.true c.e-item.is c.loop-e.invariant.fits).first))
 
 pub sum-plus-total-requires : goal.sum-plus-total-requires
 sum-plus-total-requires g t c =
-    let k = sum_step c.args.es.now c.loop-e.e-index c.e-item.result c.loop-e-test.true c.e-item.is c.loop-e.invariant.fits in
+    let k = step sums c.args.es.now c.loop-e.e-index c.e-item.result c.loop-e-test.true c.e-item.is c.loop-e.invariant.fits in
     let e = kept_is c.value.result _ (search rules) c.value.ensures in
     subst (λ v. is_small run_limit (to_z w64 c.loop-e.total-bits +ℤ v) ≡ true) (sym e) k.small
 
 pub sum-loop-e-preserved : goal.sum-loop-e-preserved
 sum-loop-e-preserved g t c =
-    let k = sum_step c.args.es.now c.loop-e.e-index c.e-item.result c.loop-e-test.true c.e-item.is c.loop-e.invariant.fits in
+    let k = step sums c.args.es.now c.loop-e.e-index c.e-item.result c.loop-e-test.true c.e-item.is c.loop-e.invariant.fits in
     let e = kept_is c.value.result _ (search rules) c.value.ensures in
     let n = kept_is c.plus-total.result _ (search rules) (c.plus-total.ensures ∙ ap (λ v. to_z w64 c.loop-e.total-bits +ℤ v) e) in
-    let s = g.S.Reads.values c.args.state.now in
-    let rest = low_exprs (map plain_lexpr (drop (c.loop-e.e-index + 1) c.args.es.now)) in
-    record {
-      fits = subst (λ n. sum_fits run_limit n rest s ≡ true) (sym n) k.rest;
-      left = ap (λ n. sum_value n rest s) n ∙ k.same ∙ c.loop-e.invariant.left;
-    }
+    let q = step_next sums k n in
+    record { fits = q.0; left = q.1 ∙ c.loop-e.invariant.left }
 
 pub sum-returns : goal.sum-returns
-sum-returns g t c = sum_stop _ _ c.args.es.now c.loop-e.e-index c.loop-e-test.false ∙ c.loop-e.invariant.left
+sum-returns g t c = stop sums _ _ c.args.es.now c.loop-e.e-index c.loop-e-test.false ∙ c.loop-e.invariant.left
 
 pub product-value-requires : goal.product-value-requires
 product-value-requires g t c =
-    λ κs lives. (search (rules, the_lemmas), (lives, (product_step c.args.es.now c.loop-e.e-index c.e-item.result c.loop-e-test.true c.e-item.is c.loop-e.invariant.fits).first))
+    λ κs lives. (search (rules, the_lemmas), (lives, (step products c.args.es.now c.loop-e.e-index c.e-item.result c.loop-e-test.true c.e-item.is c.loop-e.invariant.fits).first))
 
 pub product-times-total-requires : goal.product-times-total-requires
 product-times-total-requires g t c =
-    let k = product_step c.args.es.now c.loop-e.e-index c.e-item.result c.loop-e-test.true c.e-item.is c.loop-e.invariant.fits in
+    let k = step products c.args.es.now c.loop-e.e-index c.e-item.result c.loop-e-test.true c.e-item.is c.loop-e.invariant.fits in
     let e = kept_is c.value.result _ (search rules) c.value.ensures in
     subst (λ v. is_small run_limit (to_z w64 c.loop-e.total-bits *ℤ v) ≡ true) (sym e) k.small
 
 pub product-loop-e-preserved : goal.product-loop-e-preserved
 product-loop-e-preserved g t c =
-    let k = product_step c.args.es.now c.loop-e.e-index c.e-item.result c.loop-e-test.true c.e-item.is c.loop-e.invariant.fits in
+    let k = step products c.args.es.now c.loop-e.e-index c.e-item.result c.loop-e-test.true c.e-item.is c.loop-e.invariant.fits in
     let e = kept_is c.value.result _ (search rules) c.value.ensures in
     let n = kept_is c.times-total.result _ (search rules) (c.times-total.ensures ∙ ap (λ v. to_z w64 c.loop-e.total-bits *ℤ v) e) in
-    let s = g.S.Reads.values c.args.state.now in
-    let rest = low_exprs (map plain_lexpr (drop (c.loop-e.e-index + 1) c.args.es.now)) in
-    record {
-      fits = subst (λ n. product_fits run_limit n rest s ≡ true) (sym n) k.rest;
-      left = ap (λ n. product_value n rest s) n ∙ k.same ∙ c.loop-e.invariant.left;
-    }
+    let q = step_next products k n in
+    record { fits = q.0; left = q.1 ∙ c.loop-e.invariant.left }
 
 pub product-returns : goal.product-returns
-product-returns g t c = product_stop _ _ c.args.es.now c.loop-e.e-index c.loop-e-test.false ∙ c.loop-e.invariant.left
+product-returns g t c = stop products _ _ c.args.es.now c.loop-e.e-index c.loop-e-test.false ∙ c.loop-e.invariant.left

@@ -8,7 +8,7 @@ use Rattle.homeo_substitution.specs.Bindings.{bound}
 use Rattle.homeo_table.specs.inner.Makings.{completed}
 use Rattle.homeo_split.specs.Places.{plain_place}
 use Rattle.homeo_table.specs.inner.Walks.{after, to_come}
-use Rattle.homeo_table.proofs.Held.{no_temps}
+use Rattle.homeo_table.proofs.NoTemps.{no_temps}
 use Rattle.homeo_table.proofs.WalkSteps.{pushed, pushed-all, less-one, less-all, less-branch, on_ok_both, sets-Assign, sets-Write, goes-set, goes-Skip, goes-Print, goes-Seq, asks, goes-If}
 use Rattle.homeo_table.proofs.walking.step.Goals as goal
 

@@ -10,7 +10,7 @@ use Rattle.homeo_split.specs.States.{state_of}
 use Rattle.homeo_substitution.specs.Bindings.{bound}
 use Rattle.homeo_table.specs.inner.Makings.{completed}
 use Rattle.homeo_table.specs.inner.Walks.{to_come}
-use Rattle.homeo_table.proofs.Held.{no_temps}
+use Rattle.homeo_table.proofs.NoTemps.{no_temps}
 use Rattle.homeo_table.proofs.WalkSteps.{pushed, goes-first, first-walk, last-walk}
 use Rattle.homeo_table.proofs.walking.walk.Goals as goal
 

@@ -7,7 +7,7 @@ use Rattle.homeo_plan.specs.Limit.{form_limit}
 use Rattle.homeo_form.specs.Checked.{Checked}
 use Rattle.homeo_form.specs.Standing.{forms_of}
 use Rattle.homeo_verify.proofs.LargeNumbers.{form_is_large}
-use Rattle.homeo_verify.proofs.MetSmall.{own}
+use Rattle.homeo_plan.proofs.FormNumbers.{small_form}
 use Rattle.homeo_certificate.proofs.SmallMet.{expr_not_large}
 use Rattle.homeo_verify.proofs.sizes.form_of.Goals as goal
 
@@ -23,7 +23,7 @@ returns-in-Some-clause-small c =
     let f = forms_of c.args.standing.now in
     let e = plain_lexpr c.args.e.now in
     let made = subst (Checked f e) c.in-Some.is c.in_ok-form.ensures in
-    subst (Numbers (IsSmall form_limit)) (sym made.1) (own f e made.0)
+    subst (Numbers (IsSmall form_limit)) (sym made.1) (small_form (IsSmall form_limit) f e made.0)
 
 pub returns-in-None-clause-faults : goal.returns-in-None-clause-faults
 returns-in-None-clause-faults c =

@@ -11,11 +11,11 @@ use Rattle.homeo_meaning.specs.Acceptance.{IsAccepted}
 use Rattle.homeo_meaning.specs.CallForm.{ground_form}
 use Rattle.homeo_meaning.specs.Ground.{plain_ground}
 use Rattle.homeo_meaning.specs.Whole.{IsWhole}
+use Rattle.homeo_lform.proofs.Wholes.{ground_whole}
 use Rattle.homeo_plan.specs.Key.{definitions as plan_definitions}
 use Rattle.homeo_plan.specs.Planned.{sites_of}
 use Rattle.homeo_plan.specs.Split.{shift}
 use Rattle.homeo_plan.specs.Template.{shifted}
-use Rattle.homeo_plan.proofs.GroundForms.{ground_whole}
 use Rattle.homeo_build.proofs.FormsMade.{form_here, placed_map}
 use Rattle.homeo_build.proofs.GroundCalls.{of_call, of_calls, can_here, ground_below}
 use Rattle.homeo_build.proofs.compiled.Compiled.command.Goals as goal

@@ -13,7 +13,7 @@ returns-then-is_new-clause-bodies c =
     let old = c.args.self.now in
     put_new (plain_workload c.args.w.now) (plain_ground c.args.call.now) c.in_ok-body.body c.in_ok-body.ensures.transaction c.in_ok-body.ensures.args
     old.bodies.keys c.insert_full.new.self.keys old.forms.items c.push.new.self.items c.in_ok-form.form (list_any (same_body c.in_ok-body.body) old.bodies.keys)
-    set.keys (sym set.added ∙ c.if-is_new.true) (ap (λ l. l.items) c.in_ok-push.ensures.ok) c.requires.bodies c.requires.called.made c.in_ok-form.ensures.form
+    set.keys (sym set.added ∙ c.if-is_new.true) (ap (λ l. l.items) c.in_ok-push.ensures.ok) c.requires.bodies c.in_ok-form.ensures.form
 
 pub returns-then-is_new-clause-stay : goal.returns-then-is_new-clause-stay
 returns-then-is_new-clause-stay c =

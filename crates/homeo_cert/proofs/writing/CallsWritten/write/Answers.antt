@@ -7,11 +7,10 @@ use Rattle.homeo_syntax.specs.SourceView.{plain_workload}
 use Rattle.homeo_plan.specs.Key.{definitions as plan_definitions}
 use Rattle.homeo_plan.specs.Planned.{sites_of}
 use Rattle.homeo_plan.specs.Template.{PlannedCall}
-use Rattle.homeo_build.proofs.GroundCalls.{command_is, call_below}
+use Rattle.homeo_build.proofs.GroundCalls.{of_call, of_calls, command_is, call_below}
 use Rattle.homeo_certificate.specs.Certified.{certified_call}
 use Rattle.homeo_certificate.specs.Json.{list_data}
 use Rattle.homeo_certificate.specs.Text.{call_data}
-use Rattle.homeo_cert.proofs.CallValues.{of_call, of_calls}
 use Rattle.homeo_cert.proofs.Lists.{list_more, list_sent}
 use Rattle.homeo_cert.proofs.writing.CallsWritten.write.Goals as goal
 

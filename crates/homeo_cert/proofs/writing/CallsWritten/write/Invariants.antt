@@ -4,7 +4,7 @@ use Rattle.homeo_syntax.specs.SourceView.{plain_workload}
 use Rattle.homeo_plan.specs.Planned.{sites_of}
 use Rattle.homeo_certificate.specs.Certified.{certified_call}
 use Rattle.homeo_certificate.specs.Text.{call_data}
-use Rattle.homeo_cert.proofs.CallValues.{of_call}
+use Rattle.homeo_build.proofs.GroundCalls.{of_call}
 use Rattle.homeo_cert.proofs.Lists.{SendsUpTo}
 use Rattle.homeo_cert.proofs.writing.CallsWritten.write.Given as goal
 

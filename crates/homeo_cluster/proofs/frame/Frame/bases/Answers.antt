@@ -2,7 +2,7 @@ use Rattle.homeo_cluster.specs.Key.{places}
 use Rattle.std.proofs.Common.{◌≤◌, length, arith}
 use Rattle.homeo_plan.specs.Planned.{sites_of}
 use Rattle.homeo_site.proofs.Limits.{few_sites}
-use Rattle.homeo_core.proofs.FewClients.{clients_few}
+use Rattle.homeo_meaning.proofs.FewClients.{clients_few}
 use Rattle.homeo_cluster.proofs.frame.Frame.bases.Goals as goal
 
 pub overflow_mul-result : goal.overflow_mul-result

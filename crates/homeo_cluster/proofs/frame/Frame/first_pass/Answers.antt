@@ -1,7 +1,7 @@
 use Rattle.std.proofs.Common.{◌≤◌, ◌<◌, length, map, arith}
 use Rattle.homeo_history.specs.HistoryView.{plain_answer}
 use Rattle.homeo_cluster.specs.Places.{line_count}
-use Rattle.homeo_core.proofs.FewClients.{clients_few}
+use Rattle.homeo_meaning.proofs.FewClients.{clients_few}
 use Rattle.homeo_cluster.proofs.LinesInOrder.{clients_before_last}
 use Rattle.homeo_cluster.proofs.Begins.{owners_left, less_left, first_pass_is}
 use Rattle.homeo_cluster.proofs.frame.Frame.first_pass.Goals as goal

@@ -1,5 +1,5 @@
 use Rattle.std.proofs.Common.{rules, ◌≡◌, ◌≤◌, ◌<◌, ◌+◌, ◌*◌, length, sym, ap, ◌∙◌, arith}
-use Rattle.homeo_core.proofs.FewClients.{clients_few}
+use Rattle.homeo_meaning.proofs.FewClients.{clients_few}
 use Rattle.homeo_cluster.specs.Places.{at_line, bases_line}
 use Rattle.homeo_cluster.proofs.LinesInOrder.{first_of_all, first_next, at_before_bases, bases_few}
 use Rattle.homeo_cluster.proofs.frame.Frame.first_sites.Goals as goal

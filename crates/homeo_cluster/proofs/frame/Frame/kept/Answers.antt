@@ -1,6 +1,6 @@
 use Rattle.homeo_cluster.specs.Key.{places}
 use Rattle.std.proofs.Common.{◌+◌, ap, arith}
-use Rattle.homeo_core.proofs.FewClients.{clients_few}
+use Rattle.homeo_meaning.proofs.FewClients.{clients_few}
 use Rattle.homeo_cluster.proofs.frame.Frame.kept.Goals as goal
 
 pub overflow_add-result : goal.overflow_add-result

@@ -5,7 +5,7 @@ use Rattle.homeo_meaning.specs.Acceptance.{IsAccepted}
 use Rattle.homeo_history.specs.Legal.{IsClientAt}
 use Rattle.homeo_history.proofs.Exists.{has_site}
 use Rattle.homeo_site.proofs.Limits.{few_sites}
-use Rattle.homeo_core.proofs.FewClients.{clients_few}
+use Rattle.homeo_meaning.proofs.FewClients.{clients_few}
 use Rattle.homeo_assembly.proofs.ClientsAtSites.{client_below}
 use Rattle.homeo_cluster.specs.Places.{shut_line, at_line, bases_line}
 use Rattle.homeo_cluster.proofs.LinesInOrder.{among, at_before_bases, shut_after_done}

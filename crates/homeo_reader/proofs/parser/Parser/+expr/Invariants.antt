@@ -1,4 +1,5 @@
-use Rattle.std.proofs.Common.{◌≡◌, ◌+◌, ◌*◌, length}
+use Rattle.std.proofs.Common.{◌≡◌, ◌+◌, ◌*◌, [], ◌∷◌, length}
+use Rattle.homeo_syntax.specs.SourceView.{plain_expr}
 use Rattle.homeo_reader.specs.inner.Reading.{with_front, expr_views, test_views, factors_read, terms_read, tests_read}
 use Rattle.homeo_reader.proofs.parser.Parser.+expr.Given as goal
 
@@ -51,13 +52,13 @@ abbrev pub decreases-total_after_word : goal.decreases-total_after_word
 decreases-total_after_word l = 16 * l.room + 5
 
 abbrev pub invariant-factors-more : goal.invariant-factors-more
-invariant-factors-more l = with_front (expr_views l.items.items) (factors_read l.room l.self.rest.now) ≡ factors_read l.room l.initial.self.rest.now
+invariant-factors-more l = with_front (expr_views l.items.items) (factors_read l.room l.self.rest.now) ≡ with_front (plain_expr l.fn.first ∷ plain_expr l.fn.second ∷ []) (factors_read l.room l.initial.self.rest.now)
 
 abbrev pub decreases-factors-more : goal.decreases-factors-more
 decreases-factors-more l = length l.self.rest.now
 
 abbrev pub invariant-terms-more : goal.invariant-terms-more
-invariant-terms-more l = with_front (expr_views l.items.items) (terms_read l.room l.self.rest.now) ≡ terms_read l.room l.initial.self.rest.now
+invariant-terms-more l = with_front (expr_views l.items.items) (terms_read l.room l.self.rest.now) ≡ with_front (plain_expr l.fn.first ∷ plain_expr l.fn.second ∷ []) (terms_read l.room l.initial.self.rest.now)
 
 abbrev pub decreases-terms-more : goal.decreases-terms-more
 decreases-terms-more l = length l.self.rest.now

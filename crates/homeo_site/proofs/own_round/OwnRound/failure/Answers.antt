@@ -20,14 +20,14 @@ pub first_failure-requires-clause-keeps : goal.first_failure-requires-clause-kee
 first_failure-requires-clause-keeps c =
     let in' = c.self.inside in
     subst (λ (p : ObjectPlan). CanKeep p in'.site) (sym c.deref.ensures)
-    (can_keep (plain_workload in'.compiled.value) in'.plan.value in'.site c.self.invariant.accepted c.self.invariant.site c.self.invariant.plan)
+    (can_keep (plain_workload in'.compiled.value) in'.plan.value in'.site c.self.invariant.round.accepted c.self.invariant.round.site c.self.invariant.round.plan)
 
 pub first_failure-requires-clause-fit : goal.first_failure-requires-clause-fit
 first_failure-requires-clause-fit c =
     let in' = c.self.inside in
     subst (λ (p : ObjectPlan). All (λ (o : OwnClause). SumsFit o.terms (values_of c.args.deltas.now)) (own_clauses in'.site (template_in p).clauses (config_in p)))
     (sym c.deref.ensures)
-    (step_fits in'.compiled.value in'.plan.value in'.site in'.round c.self.invariant c.args.written.now c.args.deltas.now
+    (step_fits in'.compiled.value in'.plan.value in'.site in'.round c.self.invariant.round c.args.written.now c.args.deltas.now
     (subst (λ (v : StartValue). IsAfterStep (plain_workload v.work) v c.args.written.now c.args.deltas.now) (sym c.self.view_is) c.requires))
 
 pub returns : goal.returns
@@ -43,4 +43,4 @@ returns c =
     subst
     (λ (v : StartValue). (s : IsAfterStep (plain_workload v.work) v ws ds) →
     c.first_failure.result ≡ step_finding (plain_workload v.work) (with_deltas v s.before) s.call) c.self.view_is
-    (λ s. step_fails in'.compiled.value in'.plan.value in'.site in'.round c.self.invariant ws ds s c.first_failure.result found)
+    (λ s. step_fails in'.compiled.value in'.plan.value in'.site in'.round c.self.invariant.round ws ds s c.first_failure.result found)

@@ -10,4 +10,4 @@ returns c =
     let in' = c.self.inside in
     subst (λ (v : StartValue). IsObjectPlan (plain_workload v.work) v.base c.deref.result.now) c.self.view_is
     (subst (λ (p : ObjectPlan). IsObjectPlan (plain_workload in'.compiled.value) in'.plan.value.base.items p) (sym c.deref.ensures)
-    c.self.invariant.plan)
+    c.self.invariant.round.plan)

@@ -1,94 +1,70 @@
--- The form that is run is that of the call, and the base is that of the round.
-use Rattle.std.proofs.Common.{◌≡◌, ℕ, ◌<◌, length, Some, IfOk, sym, ap, ◌∙◌, subst}
-use Rattle.std.specs.Prelude.{slice_get}
+-- The effect is that of the call's form at the round's base, and stands for the call there.
+use Rattle.std.proofs.Common.{◌≡◌, length, Some, IfOk, slice_get, sym, ap, ◌∙◌, subst}
 use Rattle.std.specs.declared.result.Result.{Result}
 use Rattle.std.specs.declared.result.Result.TheVariants.{Ok, Err}
 use Rattle.std.proofs.lemmas.Result.{IfOk-weaker}
-use Rattle.homeo_syntax.specs.Low.{Command}
-use Rattle.homeo_syntax.specs.LowView.{plain_lcommand}
 use Rattle.homeo_syntax.specs.SourceView.{plain_workload}
 use Rattle.homeo_syntax.specs.declared.workload.Workload.{Workload}
 use Rattle.homeo_meaning.specs.Acceptance.{IsAccepted}
-use Rattle.homeo_meaning.specs.Calls.{CallExists}
-use Rattle.homeo_meaning.specs.Ground.{grounds, ground_of}
-use Rattle.homeo_meaning.specs.declared.call.CallId.{CallId}
-use Rattle.homeo_plan.specs.Planned.{planned, planned_at}
-use Rattle.homeo_plan.specs.Template.{PlannedCall}
+use Rattle.homeo_outline.specs.Numbers.{has}
 use Rattle.homeo_outline.specs.declared.plan.ObjectPlan.{ObjectPlan}
+use Rattle.homeo_plan.specs.Planned.{planned, planned_at}
 use Rattle.homeo_site.specs.SiteView.{StartValue, with_deltas}
-use Rattle.homeo_site.proofs.OwnEvals.{step_places, step_sums, step_small, prints_left, deltas_left}
+use Rattle.homeo_site.specs.inner.Effects.{AreKept, printed}
 use Rattle.homeo_site.proofs.CallsOfSites.{planned_there}
+use Rattle.homeo_site.proofs.StepsByForms.{left_there, prints_by, deltas_by, others_by}
 use Rattle.homeo_site.proofs.own_round.OwnRound.step.Goals as goal
 
-both_ok : {A E : Type 0} {P Q R : A → Type 0} → ((x : A) → P x → Q x → R x) → (r : Result A E) → IfOk r P → IfOk r Q → IfOk r R
-both_ok h (Ok x) p q = h x p q
-both_ok h (Err e) p q = tt
+all_ok :
+    {A E : Type 0} {P Q R S : A → Type 0} → ((x : A) → P x → Q x → R x → S x) → (r : Result A E) → IfOk r P → IfOk r Q → IfOk r R → IfOk r S
+all_ok h (Ok x) p q r = h x p q r
+all_ok h (Err e) p q r = tt
 
-pub place-place-requires : goal.place-place-requires
-place-place-requires c =
-    subst (λ (v : Workload). CallExists (plain_workload v) c.args.call) (sym (c.deref.ensures ∙ ap (λ (v : StartValue). v.work) c.self.view_is)) c.requires.call.exists
+pub returns-in-Some-clause-prints : goal.returns-in-Some-clause-prints
+returns-in-Some-clause-prints c =
+    let u = c.args.self.now in
+    let kept = subst (λ (v : StartValue). AreKept v c.self.inside.effects) c.self.view_is c.self.invariant.effects in
+    let there =
+    subst (λ (z : Workload). slice_get (planned (plain_workload z)) c.place-place.result ≡ Some (planned_at (plain_workload z) c.args.call))
+    (c.deref.ensures ∙ ap (λ (v : StartValue). v.work) c.self.view_is)
+    (planned_there (plain_workload c.deref.result.now) c.args.call c.place-place.result c.place-place.ensures.within c.place-place.ensures.place) in
+    let same = c.as_slice.ensures ∙ c.list.ensures ∙ sym c.requires.copy in
+    IfOk-weaker c.step_by.result _ _
+    (λ s p. p ∙ ap (λ ds. printed ds c.in-Some.effect.now.prints.items) same
+    ∙ prints_by (plain_workload u.work) (with_deltas u c.args.deltas.items)
+    (subst (λ (v : StartValue). IsAccepted (plain_workload v.work)) c.self.view_is c.self.invariant.round.accepted) c.requires.ready c.args.call
+    c.requires.call c.in-Some.effect.now (c.in-Some.ensures u kept _ there)) c.step_by.ensures.prints
 
-pub form-form-requires : goal.form-form-requires
-form-form-requires c =
-    subst (λ (v : Workload). c.place-place.result < length (grounds (plain_workload v))) (c.deref.ensures ∙ sym c.deref-2.ensures)
-    c.place-place.ensures.within
+pub returns-in-Some-clause-deltas : goal.returns-in-Some-clause-deltas
+returns-in-Some-clause-deltas c =
+    let u = c.args.self.now in
+    let kept = subst (λ (v : StartValue). AreKept v c.self.inside.effects) c.self.view_is c.self.invariant.effects in
+    let there =
+    subst (λ (z : Workload). slice_get (planned (plain_workload z)) c.place-place.result ≡ Some (planned_at (plain_workload z) c.args.call))
+    (c.deref.ensures ∙ ap (λ (v : StartValue). v.work) c.self.view_is)
+    (planned_there (plain_workload c.deref.result.now) c.args.call c.place-place.result c.place-place.ensures.within c.place-place.ensures.place) in
+    let same = c.as_slice.ensures ∙ c.list.ensures ∙ sym c.requires.copy in
+    let base = c.as_slice-base.ensures ∙ ap (λ (p : ObjectPlan). p.base.items) c.deref-in-Some.ensures ∙ ap (λ (v : StartValue). v.base) c.self.view_is in
+    all_ok (λ s count left written.
+    deltas_by (plain_workload u.work) (with_deltas u c.args.deltas.items)
+    (subst (λ (v : StartValue). IsAccepted (plain_workload v.work)) c.self.view_is c.self.invariant.round.accepted) c.requires.ready c.args.call
+    c.requires.call c.in-Some.effect.now (c.in-Some.ensures u kept _ there) s.deltas.items (count ∙ ap length same)
+    (left_there _ _ _ _ c.in-Some.effect.now s.deltas.items base same left))
+    c.step_by.result c.step_by.ensures.count c.step_by.ensures.deltas c.step_by.ensures.written
 
--- the form of a call, in a workload by another name
-form_of :
-    (u v work : Workload) (call : CallId) (n : ℕ) (f : Command) → u ≡ v → v ≡ work → n < length (grounds (plain_workload u)) →
-    slice_get (grounds (plain_workload u)) n ≡ ground_of (plain_workload u) call →
-    ((g : PlannedCall) → slice_get (planned (plain_workload v)) n ≡ Some g → f ≡ g.command) → f ≡ (planned_at (plain_workload work) call).command
-form_of u v work call n f same is within place form =
-    form (planned_at (plain_workload v) call)
-    (subst (λ (z : Workload). slice_get (planned (plain_workload z)) n ≡ Some (planned_at (plain_workload z) call)) same
-    (planned_there (plain_workload u) call n within place))
-    ∙ ap (λ (z : Workload). (planned_at (plain_workload z) call).command) is
-
-pub local_step_in-requires-clause-places : goal.local_step_in-requires-clause-places
-local_step_in-requires-clause-places c =
-    step_places (plain_workload c.args.self.now.work) (with_deltas c.args.self.now c.args.deltas.now)
-    (subst (λ (v : StartValue). IsAccepted (plain_workload v.work)) c.self.view_is c.self.invariant.accepted) c.requires.ready c.args.call
-    c.requires.call (plain_lcommand c.form-form.result.now) c.as_slice.result.now
-    (form_of c.deref.result.now c.deref-2.result.now c.args.self.now.work c.args.call c.place-place.result _ (c.deref.ensures ∙ sym c.deref-2.ensures)
-    (c.deref-2.ensures ∙ ap (λ (v : StartValue). v.work) c.self.view_is) c.place-place.ensures.within c.place-place.ensures.place c.form-form.ensures)
-    (c.as_slice.ensures ∙ ap (λ (p : ObjectPlan). p.base.items) c.deref-3.ensures ∙ ap (λ (v : StartValue). v.base) c.self.view_is)
-
-pub local_step_in-requires-clause-sums : goal.local_step_in-requires-clause-sums
-local_step_in-requires-clause-sums c =
-    step_sums (plain_workload c.args.self.now.work) (with_deltas c.args.self.now c.args.deltas.now)
-    (subst (λ (v : StartValue). IsAccepted (plain_workload v.work)) c.self.view_is c.self.invariant.accepted) c.requires.ready c.args.call
-    c.requires.call (plain_lcommand c.form-form.result.now) c.as_slice.result.now
-    (form_of c.deref.result.now c.deref-2.result.now c.args.self.now.work c.args.call c.place-place.result _ (c.deref.ensures ∙ sym c.deref-2.ensures)
-    (c.deref-2.ensures ∙ ap (λ (v : StartValue). v.work) c.self.view_is) c.place-place.ensures.within c.place-place.ensures.place c.form-form.ensures)
-    (c.as_slice.ensures ∙ ap (λ (p : ObjectPlan). p.base.items) c.deref-3.ensures ∙ ap (λ (v : StartValue). v.base) c.self.view_is)
-
-pub local_step_in-requires-clause-small : goal.local_step_in-requires-clause-small
-local_step_in-requires-clause-small c =
-    step_small (plain_workload c.args.self.now.work) (with_deltas c.args.self.now c.args.deltas.now)
-    (subst (λ (v : StartValue). IsAccepted (plain_workload v.work)) c.self.view_is c.self.invariant.accepted) c.requires.ready c.args.call
-    c.requires.call (plain_lcommand c.form-form.result.now) c.as_slice.result.now
-    (form_of c.deref.result.now c.deref-2.result.now c.args.self.now.work c.args.call c.place-place.result _ (c.deref.ensures ∙ sym c.deref-2.ensures)
-    (c.deref-2.ensures ∙ ap (λ (v : StartValue). v.work) c.self.view_is) c.place-place.ensures.within c.place-place.ensures.place c.form-form.ensures)
-    (c.as_slice.ensures ∙ ap (λ (p : ObjectPlan). p.base.items) c.deref-3.ensures ∙ ap (λ (v : StartValue). v.base) c.self.view_is)
-
-pub returns-clause-prints : goal.returns-clause-prints
-returns-clause-prints c =
-    IfOk-weaker c.local_step_in.result _ _ (λ s.
-    prints_left (plain_workload c.args.self.now.work) (with_deltas c.args.self.now c.args.deltas.now)
-    (subst (λ (v : StartValue). IsAccepted (plain_workload v.work)) c.self.view_is c.self.invariant.accepted) c.requires.ready c.args.call
-    c.requires.call (plain_lcommand c.form-form.result.now) c.as_slice.result.now
-    (form_of c.deref.result.now c.deref-2.result.now c.args.self.now.work c.args.call c.place-place.result _ (c.deref.ensures ∙ sym c.deref-2.ensures)
-    (c.deref-2.ensures ∙ ap (λ (v : StartValue). v.work) c.self.view_is) c.place-place.ensures.within c.place-place.ensures.place c.form-form.ensures)
-    (c.as_slice.ensures ∙ ap (λ (p : ObjectPlan). p.base.items) c.deref-3.ensures ∙ ap (λ (v : StartValue). v.base) c.self.view_is)
-    s.prints.items) c.local_step_in.ensures.prints
-
-pub returns-clause-deltas : goal.returns-clause-deltas
-returns-clause-deltas c =
-    both_ok (λ s count left.
-    deltas_left (plain_workload c.args.self.now.work) (with_deltas c.args.self.now c.args.deltas.now)
-    (subst (λ (v : StartValue). IsAccepted (plain_workload v.work)) c.self.view_is c.self.invariant.accepted) c.requires.ready c.args.call
-    c.requires.call (plain_lcommand c.form-form.result.now) c.as_slice.result.now
-    (form_of c.deref.result.now c.deref-2.result.now c.args.self.now.work c.args.call c.place-place.result _ (c.deref.ensures ∙ sym c.deref-2.ensures)
-    (c.deref-2.ensures ∙ ap (λ (v : StartValue). v.work) c.self.view_is) c.place-place.ensures.within c.place-place.ensures.place c.form-form.ensures)
-    (c.as_slice.ensures ∙ ap (λ (p : ObjectPlan). p.base.items) c.deref-3.ensures ∙ ap (λ (v : StartValue). v.base) c.self.view_is)
-    s.deltas.items count left) c.local_step_in.result c.local_step_in.ensures.count c.local_step_in.ensures.deltas
+pub returns-in-Some-clause-written : goal.returns-in-Some-clause-written
+returns-in-Some-clause-written c =
+    let u = c.args.self.now in
+    let kept = subst (λ (v : StartValue). AreKept v c.self.inside.effects) c.self.view_is c.self.invariant.effects in
+    let there =
+    subst (λ (z : Workload). slice_get (planned (plain_workload z)) c.place-place.result ≡ Some (planned_at (plain_workload z) c.args.call))
+    (c.deref.ensures ∙ ap (λ (v : StartValue). v.work) c.self.view_is)
+    (planned_there (plain_workload c.deref.result.now) c.args.call c.place-place.result c.place-place.ensures.within c.place-place.ensures.place) in
+    let same = c.as_slice.ensures ∙ c.list.ensures ∙ sym c.requires.copy in
+    let base = c.as_slice-base.ensures ∙ ap (λ (p : ObjectPlan). p.base.items) c.deref-in-Some.ensures ∙ ap (λ (v : StartValue). v.base) c.self.view_is in
+    all_ok (λ s count left written n none.
+    others_by (plain_workload u.work) (with_deltas u c.args.deltas.items)
+    (subst (λ (v : StartValue). IsAccepted (plain_workload v.work)) c.self.view_is c.self.invariant.round.accepted) c.requires.ready c.args.call
+    c.requires.call c.in-Some.effect.now (c.in-Some.ensures u kept _ there) s.deltas.items (count ∙ ap length same)
+    (left_there _ _ _ _ c.in-Some.effect.now s.deltas.items base same left) n (sym (ap (has n) written) ∙ none))
+    c.step_by.result c.step_by.ensures.count c.step_by.ensures.deltas c.step_by.ensures.written

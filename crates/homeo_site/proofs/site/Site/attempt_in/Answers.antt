@@ -16,7 +16,7 @@ others_stay written lent left deltas before same are h n none =
 
 pub failure-failure-requires : goal.failure-failure-requires
 failure-failure-requires c =
-    after_step c.self.inside.own c.self.inside.deltas.items c.self.inside.segment c.args.self.now c.self.view_is _ refl c.args.call c.self.invariant c.requires.call c.as_slice.result.now c.as_slice-2.result.now
+    after_step c.self.inside.own c.self.inside.deltas c.self.inside.segment c.args.self.now c.self.view_is _ refl c.args.call c.self.invariant c.requires.call c.as_slice.result.now c.as_slice-2.result.now
     (c.as_slice-2.ensures.value ∙ c.into_vec-deltas.ensures ∙ c.requires.room.deltas)
     (others_stay c.args.room.written.items c.as_slice.result.now c.as_slice-2.result.now c.args.room.deltas.items c.args.self.now.state.deltas
     c.as_slice.ensures (c.as_slice-2.ensures.value ∙ c.into_vec-deltas.ensures) c.requires.room.written)
@@ -29,7 +29,7 @@ pub returns-in-Some-clause-outcome : goal.returns-in-Some-clause-outcome
 unfolding definitions
 returns-in-Some-clause-outcome c =
     sym
-    (found_here c.self.inside.own c.self.inside.deltas.items c.self.inside.segment c.args.self.now c.self.view_is _ refl c.args.call c.self.invariant c.requires.call c.as_slice.result.now
+    (found_here c.self.inside.own c.self.inside.deltas c.self.inside.segment c.args.self.now c.self.view_is _ refl c.args.call c.self.invariant c.requires.call c.as_slice.result.now
     c.as_slice-2.result.now (c.as_slice-2.ensures.value ∙ c.into_vec-deltas.ensures ∙ c.requires.room.deltas)
     (others_stay c.args.room.written.items c.as_slice.result.now c.as_slice-2.result.now c.args.room.deltas.items c.args.self.now.state.deltas
     c.as_slice.ensures (c.as_slice-2.ensures.value ∙ c.into_vec-deltas.ensures) c.requires.room.written)
@@ -40,19 +40,21 @@ pub returns-in-Some-clause-answers : goal.returns-in-Some-clause-answers
 unfolding definitions
 returns-in-Some-clause-answers c k d lt = (c.requires.answers k d lt).empty
 
-pub returns-clause-outcome : goal.returns-clause-outcome
+pub returns-in-None-clause-outcome : goal.returns-in-None-clause-outcome
 unfolding definitions
-returns-clause-outcome c =
+returns-in-None-clause-outcome c =
     change_is _ _ c.args.call _
     (sym
-    (found_here c.self.inside.own c.self.inside.deltas.items c.self.inside.segment c.args.self.now c.self.view_is _ refl c.args.call c.self.invariant c.requires.call c.as_slice.result.now
+    (found_here c.self.inside.own c.self.inside.deltas c.self.inside.segment c.args.self.now c.self.view_is _ refl c.args.call c.self.invariant c.requires.call c.as_slice.result.now
     c.as_slice-2.result.now (c.as_slice-2.ensures.value ∙ c.into_vec-deltas.ensures ∙ c.requires.room.deltas)
     (others_stay c.args.room.written.items c.as_slice.result.now c.as_slice-2.result.now c.args.room.deltas.items c.args.self.now.state.deltas
     c.as_slice.ensures (c.as_slice-2.ensures.value ∙ c.into_vec-deltas.ensures) c.requires.room.written)
     c.failure-failure.result c.failure-failure.ensures)
     ∙ c.in-None.is)
     refl (ap (λ (l : Listed ℤ). l.items) c.from_vec.ensures ∙ c.into_vec-deltas.ensures ∙ c.requires.room.deltas) (c.copy_to_all-prints.ensures.prints ∙ c.requires.room.prints)
+    (others_stay c.args.room.written.items _ _ c.args.room.deltas.items c.args.self.now.state.deltas refl
+    (ap (λ (l : Listed ℤ). l.items) c.from_vec.ensures ∙ c.into_vec-deltas.ensures) c.requires.room.written)
 
-pub returns-clause-answers : goal.returns-clause-answers
+pub returns-in-None-clause-answers : goal.returns-in-None-clause-answers
 unfolding definitions
-returns-clause-answers c k d lt = c.copy_to_all-prints.ensures.copied k d lt ∙ sym c.copy_to_all-prints.ensures.prints
+returns-in-None-clause-answers c k d lt = c.copy_to_all-prints.ensures.copied k d lt ∙ sym c.copy_to_all-prints.ensures.prints

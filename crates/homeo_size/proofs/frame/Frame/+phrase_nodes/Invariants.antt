@@ -2,13 +2,13 @@
 use Rattle.std.proofs.Common.{◌≡◌, map, drop}
 use Rattle.homeo_syntax.specs.SourceView.{exprs, tests, plain_expr, plain_test}
 use Rattle.homeo_size.specs.inner.Nodes.{all_nodes, tests_nodes}
-use Rattle.homeo_size.specs.inner.Tables.{setting}
+use Rattle.homeo_size.specs.inner.Tables.{context_of}
 use Rattle.homeo_size.proofs.frame.Frame.+phrase_nodes.Given as goal
 
 abbrev pub invariant-all_nodes-loop-e : goal.invariant-all_nodes-loop-e
 invariant-all_nodes-loop-e l =
-    all_nodes (setting l.self) (exprs (map plain_expr (drop l.e-index l.es))) l.all ≡ all_nodes (setting l.self) (exprs (map plain_expr l.es)) 0
+    all_nodes (context_of l.self) (exprs (map plain_expr (drop l.e-index l.es))) l.all ≡ all_nodes (context_of l.self) (exprs (map plain_expr l.es)) 0
 
 abbrev pub invariant-tests_nodes-loop-t : goal.invariant-tests_nodes-loop-t
 invariant-tests_nodes-loop-t l =
-    tests_nodes (setting l.self) (tests (map plain_test (drop l.t-index l.ts))) l.all ≡ tests_nodes (setting l.self) (tests (map plain_test l.ts)) 0
+    tests_nodes (context_of l.self) (tests (map plain_test (drop l.t-index l.ts))) l.all ≡ tests_nodes (context_of l.self) (tests (map plain_test l.ts)) 0

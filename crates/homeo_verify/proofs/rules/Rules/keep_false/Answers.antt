@@ -7,12 +7,13 @@ use Rattle.homeo_certificate.specs.Kept.{atom, kept_false}
 use Rattle.homeo_certificate.specs.Followed.{atom_faults}
 use Rattle.homeo_verify.specs.inner.RulesView.{plain_rules}
 use Rattle.homeo_verify.specs.inner.Stops.{Finds}
-use Rattle.homeo_verify.proofs.RuleSteps.{zero_is_small, one_is_small}
+use Rattle.homeo_form.proofs.RunningSums.{zero_small}
+use Rattle.homeo_verify.proofs.RuleSteps.{one_is_small}
 use Rattle.homeo_verify.proofs.Stopping.{finds_one}
 use Rattle.homeo_verify.proofs.rules.Rules.keep_false.Goals as goal
 
 pub keep-requires-clause-more : goal.keep-requires-clause-more
-keep-requires-clause-more c = zero_is_small
+keep-requires-clause-more c = zero_small
 
 pub keep-requires-in-LessEqual-clause-more : goal.keep-requires-in-LessEqual-clause-more
 keep-requires-in-LessEqual-clause-more c = one_is_small

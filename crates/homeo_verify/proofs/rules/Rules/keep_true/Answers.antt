@@ -6,7 +6,8 @@ use Rattle.homeo_certificate.specs.Kept.{atom, kept_true}
 use Rattle.homeo_certificate.specs.Followed.{atom_faults}
 use Rattle.homeo_verify.specs.inner.RulesView.{plain_rules}
 use Rattle.homeo_verify.specs.inner.Stops.{Finds}
-use Rattle.homeo_verify.proofs.RuleSteps.{zero_is_small, one_is_small}
+use Rattle.homeo_form.proofs.RunningSums.{zero_small}
+use Rattle.homeo_verify.proofs.RuleSteps.{one_is_small}
 use Rattle.homeo_verify.proofs.Stopping.{stop_with, stops_as, stop_sooner, finds_one, finds_later}
 use Rattle.homeo_verify.proofs.rules.Rules.keep_true.Goals as goal
 
@@ -14,13 +15,13 @@ pub keep-requires-clause-more : goal.keep-requires-clause-more
 keep-requires-clause-more c = one_is_small
 
 pub keep-requires-in-LessEqual-clause-more : goal.keep-requires-in-LessEqual-clause-more
-keep-requires-in-LessEqual-clause-more c = zero_is_small
+keep-requires-in-LessEqual-clause-more c = zero_small
 
 pub keep-requires-in-Equal-clause-more : goal.keep-requires-in-Equal-clause-more
-keep-requires-in-Equal-clause-more c = zero_is_small
+keep-requires-in-Equal-clause-more c = zero_small
 
 pub keep-requires-in-Equal-2-clause-more : goal.keep-requires-in-Equal-2-clause-more
-keep-requires-in-Equal-2-clause-more c = zero_is_small
+keep-requires-in-Equal-2-clause-more c = zero_small
 
 pub returns-in-Less : goal.returns-in-Less
 unfolding definitions

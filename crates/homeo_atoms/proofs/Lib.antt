@@ -1,0 +1,5 @@
+mod AtBase
+mod Freezing
+mod JoinedSlacks
+mod Needing
+mod Putting

@@ -1,5 +1,0 @@
-use Rattle.homeo_delta.proofs.SmallSums.{sums_law}
-use Rattle.homeo_delta.proofs.laws.small_parts_can_be_folded.Goals as goal
-
-pub returns : goal.returns
-returns c = sums_law

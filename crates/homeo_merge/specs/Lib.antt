@@ -1,0 +1,2 @@
+pub mod Misfit
+pub mod inner

@@ -1,6 +1,0 @@
-use Rattle.std.proofs.Common.{◌≡◌, ◌++◌, take}
-use Rattle.homeo_print.proofs.Behind.{numbers_behind}
-use Rattle.homeo_print.proofs.declarations.push_numbers.Given as goal
-
-abbrev pub invariant-loop-n : goal.invariant-loop-n
-invariant-loop-n l = l.out ≡ l.initial.out ++ numbers_behind (take l.n-index l.more)

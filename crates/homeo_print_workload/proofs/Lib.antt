@@ -1,0 +1,19 @@
+pub mod Atoms
+pub mod Behind
+pub mod Claims
+pub mod CommandSteps
+pub mod DeclarationSteps
+pub mod DeclarationsBack
+pub mod Deeper
+pub mod ExpressionsBack
+mod LaterMarks
+pub mod Laying
+pub mod Led
+pub mod Lexing
+pub mod NamesBack
+pub mod Numbered
+pub mod PhraseSteps
+pub mod PhrasesBack
+pub mod ReadingBack
+pub mod Scanning
+pub mod TestsBack

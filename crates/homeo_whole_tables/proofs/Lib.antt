@@ -1,0 +1,4 @@
+pub mod CountedTables
+pub mod FormulasFit
+pub mod Held
+pub mod Taken
