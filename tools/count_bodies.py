@@ -46,7 +46,7 @@ INNER = {
     "homeo_words": [],
 }
 # Crates that take minutes to prove, and would be proved once more for their wrong bodies: tools/wrong-bodies alone tries these.
-DEAR = ["homeo_syntax", "homeo_reader", "homeo_rules", "homeo_print", "homeo_print_workload", "homeo_core", "homeo_forecast", "homeo_cert", "homeo_verify", "homeo_session", "homeo_wire", "homeo_cluster"]
+DEAR = ["homeo_syntax", "homeo_reader", "homeo_rules", "homeo_print", "homeo_print_workload", "homeo_core", "homeo_forecast", "homeo_cert", "homeo_verify", "homeo_session", "homeo_wire", "homeo_cluster", "homeo_lines", "homeo_process"]
 # Those of which the gate tries what stands here, and nothing else.
 FIXED = {**INNER, **{crate: [] for crate in DEAR}}
 
