@@ -1,5 +1,5 @@
 -- Calls, read from the parts of a JSON object.
-use Rattle.std.proofs.Common.{◌≡◌, ℕ, ◌<◌, List, [], map, pos, Some, sym, ap, ap₂, ◌∙◌, subst, append-nil}
+use Rattle.std.proofs.Common.{◌≡◌, ℕ, ◌<◌, ◌≤◌, List, [], map, length, pos, Option, Some, None, sym, ap, ap₂, ◌∙◌, subst, append-nil}
 use Rattle.std.specs.Prelude.{codes}
 use Rattle.serde_json.specs.Data.{Data, object, member, no_members}
 use Rattle.homeo_syntax.specs.Low.{Command}
@@ -14,6 +14,8 @@ use Rattle.homeo_certificate.specs.Parse.{parse_command}
 use Rattle.homeo_certificate.specs.NodeShapes.{NodeInShape}
 use Rattle.homeo_certificate.proofs.NodesInShape.{nodes_in_shape}
 use Rattle.homeo_certificate.proofs.OneCertificate.{value_at, same_nodes}
+use Rattle.homeo_cert_reader.specs.Read.{IsRead}
+use Rattle.homeo_cert_reader.specs.inner.Reading.{AreCalls}
 use Rattle.homeo_cert_reader.proofs.ParseSound.{command_sound}
 use Rattle.homeo_certificate.proofs.Unique.{read_command}
 
@@ -45,3 +47,10 @@ module _ (n k : ℕ) (d c s : Data) (is : call_object c s ≡ d) where
           record { site = l; command = got.good.0; nesting = got.good.1 },
           ap₂ call_object (ap (λ l. list_data (map node_data l)) (sym (append-nil (command_nodes x)) ∙ sym got.is) ∙ nodes) site ∙ is,
         )
+
+-- calls that are few enough are read as a list
+pub few_calls :
+    (n k : ℕ) (d : Data) (r : Option (List Call)) → ((gs : List Call) → list_data (map call_data gs) ≡ d → length gs ≤ 1024) →
+    IsRead (Each (CallInShape n k)) (λ gs. list_data (map call_data gs)) d r → IsRead (AreCalls n k) (λ gs. list_data (map call_data gs)) d r
+few_calls n k d None few h = λ gs are e. h gs are.in_shape e
+few_calls n k d (Some gs) few h = (record { few = few gs h.1; in_shape = h.0 }, h.1)

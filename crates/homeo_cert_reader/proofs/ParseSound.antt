@@ -119,7 +119,7 @@ module _ (n k : ℕ) where
       (subst (λ l. Got expr_nodes (GoodExpr (suc m)) (NodeInShape n k) (k' ∷ ns) a l) left
       (record { is = ap (λ l. l ++ ns) (sym nodes); good = (shape, subst (λ d. d ≤ suc m) (sym nests) (omega arith)); left = p }))
 
-  none : {X : Type 0} (a : Expr) (rest : List Node) → None ≡ answer a rest → X
+  none : {A X : Type 0} (a : A) (rest : List Node) → None ≡ answer a rest → X
   none a rest e = absurd cc
 
   expr_sound : (m : ℕ) (ns : List Node) (e : Expr) (rest : List Node) → Each (NodeInShape n k) ns → parse_expr m ns ≡ Some (e, rest) → Got expr_nodes (GoodExpr m) (NodeInShape n k) ns e rest
@@ -145,15 +145,7 @@ module _ (n k : ℕ) where
       let g = expr_sound m ns s.value rest p.1 s.is in
       subst (λ x. Got expr_nodes (GoodExpr (suc m)) (NodeInShape n k) (node.Neg ∷ ns) x rest) s.same
       (record { is = ap (λ l. node.Neg ∷ l) g.is; good = (g.good.0, omega (arith, g.good.1)); left = g.left })
-  expr_sound (suc m) (node.Skip ∷ ns) e rest p q = none e rest q
-  expr_sound (suc m) (node.Assign ∷ ns) e rest p q = none e rest q
-  expr_sound (suc m) (node.Write x j ∷ ns) e rest p q = none e rest q
-  expr_sound (suc m) (node.Print ∷ ns) e rest p q = none e rest q
-  expr_sound (suc m) (node.Seq c ∷ ns) e rest p q = none e rest q
-  expr_sound (suc m) (node.If c ∷ ns) e rest p q = none e rest q
-  expr_sound (suc m) (node.True ∷ ns) e rest p q = none e rest q
-  expr_sound (suc m) (node.Not c ∷ ns) e rest p q = none e rest q
-  expr_sound (suc m) (node.Comparison op ∷ ns) e rest p q = none e rest q
+  expr_sound (suc m) (other ∷ ns) e rest p q = none e rest q
 
   -- ---- tests
   abbrev pub GoodTest : ℕ → Test → Type 0
@@ -167,13 +159,10 @@ module _ (n k : ℕ) where
       let r = tests_are m ts h.1 in
       (((h.0.0, r.0.0), omega (arith, h.0.1, r.0.1)), ap suc r.1, ap (λ l. test_nodes t ++ l) r.2)
 
-  none_test : {X : Type 0} (a : Test) (rest : List Node) → None ≡ answer a rest → X
-  none_test a rest e = absurd cc
-
   test_sound : (m : ℕ) (ns : List Node) (t : Test) (rest : List Node) → Each (NodeInShape n k) ns → parse_test m ns ≡ Some (t, rest) → Got test_nodes (GoodTest m) (NodeInShape n k) ns t rest
   unfolding definitions plan_definitions
-  test_sound zero ns t rest p q = none_test t rest q
-  test_sound (suc m) [] t rest p q = none_test t rest q
+  test_sound zero ns t rest p q = none t rest q
+  test_sound (suc m) [] t rest p q = none t rest q
   test_sound (suc m) (node.True ∷ ns) t rest p q =
       let both = same_Some (True, ns) (t, rest) q in
       subst (λ x. Got test_nodes (GoodTest (suc m)) (NodeInShape n k) (node.True ∷ ns) x rest) (ap (λ x. x.0) both)
@@ -200,19 +189,7 @@ module _ (n k : ℕ) where
         good = ((a.good.0, b.good.0), omega (arith, a.good.1, b.good.1));
         left = b.left;
       })
-  test_sound (suc m) (node.Skip ∷ ns) t rest p q = none_test t rest q
-  test_sound (suc m) (node.Assign ∷ ns) t rest p q = none_test t rest q
-  test_sound (suc m) (node.Write x j ∷ ns) t rest p q = none_test t rest q
-  test_sound (suc m) (node.Print ∷ ns) t rest p q = none_test t rest q
-  test_sound (suc m) (node.Seq c ∷ ns) t rest p q = none_test t rest q
-  test_sound (suc m) (node.If c ∷ ns) t rest p q = none_test t rest q
-  test_sound (suc m) (node.Temp u ∷ ns) t rest p q = none_test t rest q
-  test_sound (suc m) (node.Literal x ∷ ns) t rest p q = none_test t rest q
-  test_sound (suc m) (node.Base x ∷ ns) t rest p q = none_test t rest q
-  test_sound (suc m) (node.Delta x j ∷ ns) t rest p q = none_test t rest q
-  test_sound (suc m) (node.Sum c ∷ ns) t rest p q = none_test t rest q
-  test_sound (suc m) (node.Product c ∷ ns) t rest p q = none_test t rest q
-  test_sound (suc m) (node.Neg ∷ ns) t rest p q = none_test t rest q
+  test_sound (suc m) (other ∷ ns) t rest p q = none t rest q
 
   -- ---- commands
   abbrev pub GoodCommand : ℕ → Command → Type 0
@@ -226,40 +203,20 @@ module _ (n k : ℕ) where
       let r = commands_are m cs h.1 in
       (((h.0.0, r.0.0), omega (arith, h.0.1, r.0.1)), ap suc r.1, ap (λ l. command_nodes c ++ l) r.2)
 
-  none_command : {X : Type 0} (a : Command) (rest : List Node) → None ≡ answer a rest → X
-  none_command a rest e = absurd cc
-
-  none_temp : {X : Type 0} (a : Temp) (rest : List Node) → None ≡ answer a rest → X
-  none_temp a rest e = absurd cc
-
   temp_sound : (m : ℕ) (ns : List Node) (t : Temp) (rest : List Node) → Each (NodeInShape n k) ns → parse_temp m ns ≡ Some (t, rest) → Got (λ u. node.Temp u ∷ []) (TempInShape n k) (NodeInShape n k) ns t rest
   unfolding definitions plan_definitions
-  temp_sound zero ns t rest p q = none_temp t rest q
-  temp_sound (suc m) [] t rest p q = none_temp t rest q
+  temp_sound zero ns t rest p q = none t rest q
+  temp_sound (suc m) [] t rest p q = none t rest q
   temp_sound (suc m) (node.Temp u ∷ ns) t rest p q =
       let both = same_Some (u, ns) (t, rest) q in
       subst (λ x. Got (λ u. node.Temp u ∷ []) (TempInShape n k) (NodeInShape n k) (node.Temp u ∷ ns) x rest) (ap (λ x. x.0) both)
       (record { is = ap (λ l. node.Temp u ∷ l) (ap (λ x. x.1) both); good = p.0; left = subst (Each (NodeInShape n k)) (ap (λ x. x.1) both) p.1 })
-  temp_sound (suc m) (node.Skip ∷ ns) t rest p q = none_temp t rest q
-  temp_sound (suc m) (node.Assign ∷ ns) t rest p q = none_temp t rest q
-  temp_sound (suc m) (node.Write x j ∷ ns) t rest p q = none_temp t rest q
-  temp_sound (suc m) (node.Print ∷ ns) t rest p q = none_temp t rest q
-  temp_sound (suc m) (node.Seq c ∷ ns) t rest p q = none_temp t rest q
-  temp_sound (suc m) (node.If c ∷ ns) t rest p q = none_temp t rest q
-  temp_sound (suc m) (node.True ∷ ns) t rest p q = none_temp t rest q
-  temp_sound (suc m) (node.Not c ∷ ns) t rest p q = none_temp t rest q
-  temp_sound (suc m) (node.Comparison op ∷ ns) t rest p q = none_temp t rest q
-  temp_sound (suc m) (node.Literal x ∷ ns) t rest p q = none_temp t rest q
-  temp_sound (suc m) (node.Base x ∷ ns) t rest p q = none_temp t rest q
-  temp_sound (suc m) (node.Delta x j ∷ ns) t rest p q = none_temp t rest q
-  temp_sound (suc m) (node.Sum c ∷ ns) t rest p q = none_temp t rest q
-  temp_sound (suc m) (node.Product c ∷ ns) t rest p q = none_temp t rest q
-  temp_sound (suc m) (node.Neg ∷ ns) t rest p q = none_temp t rest q
+  temp_sound (suc m) (other ∷ ns) t rest p q = none t rest q
 
   pub command_sound : (m : ℕ) (ns : List Node) (c : Command) (rest : List Node) → Each (NodeInShape n k) ns → parse_command m ns ≡ Some (c, rest) → Got command_nodes (GoodCommand m) (NodeInShape n k) ns c rest
   unfolding definitions plan_definitions
-  command_sound zero ns c rest p q = none_command c rest q
-  command_sound (suc m) [] c rest p q = none_command c rest q
+  command_sound zero ns c rest p q = none c rest q
+  command_sound (suc m) [] c rest p q = none c rest q
   command_sound (suc m) (node.Skip ∷ ns) c rest p q =
       let both = same_Some (Skip, ns) (c, rest) q in
       subst (λ x. Got command_nodes (GoodCommand (suc m)) (NodeInShape n k) (node.Skip ∷ ns) x rest) (ap (λ x. x.0) both)
@@ -314,13 +271,4 @@ module _ (n k : ℕ) where
         good = ((subst (λ z. z < 2 ^ 63) (sym count) p.0, r.0.0, x.good.0, y.good.0), omega (arith, r.0.1, x.good.1, y.good.1));
         left = y.left;
       })
-  command_sound (suc m) (node.True ∷ ns) c rest p q = none_command c rest q
-  command_sound (suc m) (node.Not d ∷ ns) c rest p q = none_command c rest q
-  command_sound (suc m) (node.Comparison op ∷ ns) c rest p q = none_command c rest q
-  command_sound (suc m) (node.Temp u ∷ ns) c rest p q = none_command c rest q
-  command_sound (suc m) (node.Literal x ∷ ns) c rest p q = none_command c rest q
-  command_sound (suc m) (node.Base x ∷ ns) c rest p q = none_command c rest q
-  command_sound (suc m) (node.Delta x j ∷ ns) c rest p q = none_command c rest q
-  command_sound (suc m) (node.Sum d ∷ ns) c rest p q = none_command c rest q
-  command_sound (suc m) (node.Product d ∷ ns) c rest p q = none_command c rest q
-  command_sound (suc m) (node.Neg ∷ ns) c rest p q = none_command c rest q
+  command_sound (suc m) (other ∷ ns) c rest p q = none c rest q

@@ -6,53 +6,13 @@ use Rattle.homeo_certificate.specs.declared.nodes.Node.{Node}
 use Rattle.homeo_certificate.specs.declared.nodes.Node.TheVariants as node
 use Rattle.homeo_certificate.specs.Parse.{Parse, then, seen, many, parse_expr, parse_test, parse_temp, parse_command, Gives}
 
-pub none_without_nodes : (m : ℕ) (ns : List Node) → ns ≡ [] → parse_expr m ns ≡ None
-unfolding definitions
-none_without_nodes m ns e = ap (parse_expr m) e ∙ go m
-  where
-    go : (m : ℕ) → parse_expr m [] ≡ None
-    go zero = refl
-    go (suc m) = refl
+-- no phrase is read where no node is left, and none where no level is
+pub without_nodes : {A : Type 0} (f : ℕ → Parse A) → f 0 [] ≡ None → ((m : ℕ) → f (suc m) [] ≡ None) → (m : ℕ) (ns : List Node) → ns ≡ [] → f m ns ≡ None
+without_nodes f z s zero ns e = ap (f 0) e ∙ z
+without_nodes f z s (suc m) ns e = ap (f (suc m)) e ∙ s m
 
-pub none_without_levels : (m : ℕ) (ns : List Node) → m ≡ 0 → parse_expr m ns ≡ None
-unfolding definitions
-none_without_levels m ns e = ap (λ k. parse_expr k ns) e
-
-pub no_test_without_nodes : (m : ℕ) (ns : List Node) → ns ≡ [] → parse_test m ns ≡ None
-unfolding definitions
-no_test_without_nodes m ns e = ap (parse_test m) e ∙ go m
-  where
-    go : (m : ℕ) → parse_test m [] ≡ None
-    go zero = refl
-    go (suc m) = refl
-
-pub no_command_without_nodes : (m : ℕ) (ns : List Node) → ns ≡ [] → parse_command m ns ≡ None
-unfolding definitions
-no_command_without_nodes m ns e = ap (parse_command m) e ∙ go m
-  where
-    go : (m : ℕ) → parse_command m [] ≡ None
-    go zero = refl
-    go (suc m) = refl
-
-pub no_temp_without_nodes : (m : ℕ) (ns : List Node) → ns ≡ [] → parse_temp m ns ≡ None
-unfolding definitions
-no_temp_without_nodes m ns e = ap (parse_temp m) e ∙ go m
-  where
-    go : (m : ℕ) → parse_temp m [] ≡ None
-    go zero = refl
-    go (suc m) = refl
-
-pub no_test_without_levels : (m : ℕ) (ns : List Node) → m ≡ 0 → parse_test m ns ≡ None
-unfolding definitions
-no_test_without_levels m ns e = ap (λ k. parse_test k ns) e
-
-pub no_command_without_levels : (m : ℕ) (ns : List Node) → m ≡ 0 → parse_command m ns ≡ None
-unfolding definitions
-no_command_without_levels m ns e = ap (λ k. parse_command k ns) e
-
-pub no_temp_without_levels : (m : ℕ) (ns : List Node) → m ≡ 0 → parse_temp m ns ≡ None
-unfolding definitions
-no_temp_without_levels m ns e = ap (λ k. parse_temp k ns) e
+pub without_levels : {A : Type 0} (f : ℕ → Parse A) (m : ℕ) (ns : List Node) → f 0 ns ≡ None → m ≡ 0 → f m ns ≡ None
+without_levels f m ns z e = ap (λ k. f k ns) e ∙ z
 
 -- the first node of any phrase is at hand
 pub first_of :
@@ -67,22 +27,10 @@ other_test m n ns rest e nt nn nc = ap (parse_test m) e ∙ go m n nt nn nc
   where
     go : (m : ℕ) (n : Node) → (n ≡ node.True → ⊥) → ((x : _) → n ≡ node.Not x → ⊥) → ((x : _) → n ≡ node.Comparison x → ⊥) → parse_test m (n ∷ rest) ≡ None
     go zero n nt nn nc = refl
-    go (suc m) node.Skip nt nn nc = refl
-    go (suc m) node.Assign nt nn nc = refl
-    go (suc m) (node.Write x j) nt nn nc = refl
-    go (suc m) node.Print nt nn nc = refl
-    go (suc m) (node.Seq c) nt nn nc = refl
-    go (suc m) (node.If c) nt nn nc = refl
     go (suc m) node.True nt nn nc = absurd (nt refl)
     go (suc m) (node.Not c) nt nn nc = absurd (nn c refl)
     go (suc m) (node.Comparison op) nt nn nc = absurd (nc op refl)
-    go (suc m) (node.Temp t) nt nn nc = refl
-    go (suc m) (node.Literal x) nt nn nc = refl
-    go (suc m) (node.Base x) nt nn nc = refl
-    go (suc m) (node.Delta x j) nt nn nc = refl
-    go (suc m) (node.Sum c) nt nn nc = refl
-    go (suc m) (node.Product c) nt nn nc = refl
-    go (suc m) node.Neg nt nn nc = refl
+    go (suc m) other nt nn nc = refl
 
 pub other_temp : (m : ℕ) (n : Node) (ns rest : List Node) → ns ≡ n ∷ rest → ((x : _) → n ≡ node.Temp x → ⊥) → parse_temp m ns ≡ None
 unfolding definitions
@@ -90,22 +38,8 @@ other_temp m n ns rest e nt = ap (parse_temp m) e ∙ go m n nt
   where
     go : (m : ℕ) (n : Node) → ((x : _) → n ≡ node.Temp x → ⊥) → parse_temp m (n ∷ rest) ≡ None
     go zero n nt = refl
-    go (suc m) node.Skip nt = refl
-    go (suc m) node.Assign nt = refl
-    go (suc m) (node.Write x j) nt = refl
-    go (suc m) node.Print nt = refl
-    go (suc m) (node.Seq c) nt = refl
-    go (suc m) (node.If c) nt = refl
-    go (suc m) node.True nt = refl
-    go (suc m) (node.Not c) nt = refl
-    go (suc m) (node.Comparison op) nt = refl
     go (suc m) (node.Temp t) nt = absurd (nt t refl)
-    go (suc m) (node.Literal x) nt = refl
-    go (suc m) (node.Base x) nt = refl
-    go (suc m) (node.Delta x j) nt = refl
-    go (suc m) (node.Sum c) nt = refl
-    go (suc m) (node.Product c) nt = refl
-    go (suc m) node.Neg nt = refl
+    go (suc m) other nt = refl
 
 pub other_command :
     (m : ℕ) (n : Node) (ns rest : List Node) → ns ≡ n ∷ rest → (n ≡ node.Skip → ⊥) → (n ≡ node.Assign → ⊥) → ((x j : _) → n ≡ node.Write x j → ⊥) →
@@ -123,21 +57,7 @@ other_command m n ns rest e ns' na nw np nq ni = ap (parse_command m) e ∙ go m
     go (suc m) node.Print ns na nw np nq ni = absurd (np refl)
     go (suc m) (node.Seq c) ns na nw np nq ni = absurd (nq c refl)
     go (suc m) (node.If c) ns na nw np nq ni = absurd (ni c refl)
-    go (suc m) node.True ns na nw np nq ni = refl
-    go (suc m) (node.Not c) ns na nw np nq ni = refl
-    go (suc m) (node.Comparison op) ns na nw np nq ni = refl
-    go (suc m) (node.Temp t) ns na nw np nq ni = refl
-    go (suc m) (node.Literal x) ns na nw np nq ni = refl
-    go (suc m) (node.Base x) ns na nw np nq ni = refl
-    go (suc m) (node.Delta x j) ns na nw np nq ni = refl
-    go (suc m) (node.Sum c) ns na nw np nq ni = refl
-    go (suc m) (node.Product c) ns na nw np nq ni = refl
-    go (suc m) node.Neg ns na nw np nq ni = refl
-
--- the first node is at hand
-pub first_node : (m : ℕ) (n k : Node) (ns rest : List Node) → 0 < m → ns ≡ n ∷ rest → n ≡ k → parse_expr m ns ≡ parse_expr (suc (m - 1)) (k ∷ rest)
-first_node m n k ns rest l e q =
-    let p : m ≡ suc (m - 1) = omega (arith, l) in ap₂ parse_expr p (e ∙ ap (λ z. z ∷ rest) q)
+    go (suc m) other ns na nw np nq ni = refl
 
 pub other_node :
     (m : ℕ) (n : Node) (ns rest : List Node) → ns ≡ n ∷ rest → ((x : _) → n ≡ node.Literal x → ⊥) → ((x : _) → n ≡ node.Temp x → ⊥) → ((x : _) → n ≡ node.Base x → ⊥) →
@@ -150,15 +70,6 @@ other_node m n ns rest e nl nt nb nd ns' np nn = ap (parse_expr m) e ∙ go m n 
         ((x j : _) → n ≡ node.Delta x j → ⊥) → ((x : _) → n ≡ node.Sum x → ⊥) → ((x : _) → n ≡ node.Product x → ⊥) → (n ≡ node.Neg → ⊥) →
         parse_expr m (n ∷ rest) ≡ None
     go zero n nl nt nb nd ns np nn = refl
-    go (suc m) node.Skip nl nt nb nd ns np nn = refl
-    go (suc m) node.Assign nl nt nb nd ns np nn = refl
-    go (suc m) (node.Write x j) nl nt nb nd ns np nn = refl
-    go (suc m) node.Print nl nt nb nd ns np nn = refl
-    go (suc m) (node.Seq c) nl nt nb nd ns np nn = refl
-    go (suc m) (node.If c) nl nt nb nd ns np nn = refl
-    go (suc m) node.True nl nt nb nd ns np nn = refl
-    go (suc m) (node.Not c) nl nt nb nd ns np nn = refl
-    go (suc m) (node.Comparison op) nl nt nb nd ns np nn = refl
     go (suc m) (node.Temp t) nl nt nb nd ns np nn = absurd (nt t refl)
     go (suc m) (node.Literal x) nl nt nb nd ns np nn = absurd (nl x refl)
     go (suc m) (node.Base x) nl nt nb nd ns np nn = absurd (nb x refl)
@@ -166,6 +77,7 @@ other_node m n ns rest e nl nt nb nd ns' np nn = ap (parse_expr m) e ∙ go m n 
     go (suc m) (node.Sum c) nl nt nb nd ns np nn = absurd (ns c refl)
     go (suc m) (node.Product c) nl nt nb nd ns np nn = absurd (np c refl)
     go (suc m) node.Neg nl nt nb nd ns np nn = absurd (nn refl)
+    go (suc m) other nl nt nb nd ns np nn = refl
 
 -- ---- so many: what is left to read, in front of what was read
 abbrev pub with_read : {A : Type 0} → List A → Option (List A × List Node) → Option (List A × List Node)

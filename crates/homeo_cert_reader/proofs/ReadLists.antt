@@ -1,14 +1,18 @@
 -- Lists that are read item by item.
 use Rattle.homeo_plan.specs.Key.{definitions as plan_definitions}
 use Rattle.std.proofs.Common.{◌≡◌, ℕ, ℤ, Vec, Global, zero, suc, ◌+◌, ◌<◌, ◌≤◌, List, [], ◌∷◌, ◌++◌, map, length, take, slice_index_or, Option, Some, None, option_map, MatchOption, refl, sym, ap, ap₂, ◌∙◌, subst, arith}
+use Rattle.std.proofs.lemmas.Fn.{chained_keeps}
 use Rattle.std.proofs.lemmas.List.{map_more, map-append, take_all}
 use Rattle.serde_json.specs.Data.{Data, null, boolean, number, string, array, object, Members, no_members, member, Items, no_items, item}
 use Rattle.serde_json.specs.Find.{as_object}
 use Rattle.serde_json.specs.View.{items_of}
 use Rattle.homeo_lemmas.proofs.Lists.{cons_head, cons_tail}
 use Rattle.homeo_plan.specs.Each.{Each}
-use Rattle.homeo_certificate.specs.Json.{list_data}
+use Rattle.homeo_certificate.specs.Json.{list_data, wholes_data}
+use Rattle.homeo_certificate.specs.Shape.{IsWord}
+use Rattle.homeo_certificate.proofs.OneCertificate.{same_wholes}
 use Rattle.homeo_cert_reader.specs.Read.{IsRead, AreRead}
+use Rattle.homeo_cert_reader.specs.inner.Reading.{Pushed, ListGave}
 
 each_more : {A : Type 0} (P : A → Type 0) (xs : List A) (x : A) → Each P xs → P x → Each P (xs ++ x ∷ [])
 unfolding plan_definitions
@@ -67,6 +71,50 @@ pub list_read :
 list_read P f ds d None e h = λ xs p q. h xs p (same_list (map f xs) ds (q ∙ sym e))
 list_read P f ds d (Some xs) e h = (h.0, ap list_data h.1 ∙ e)
 
+-- How items are seen: one of them, and all.
+pub record View (X A : Type 0) : Type 0 where
+  pub one : X → A
+  pub all : List X → List A
+  pub none : all [] ≡ []
+  pub more : (xs : List X) (x : X) → all (xs ++ x ∷ []) ≡ all xs ++ one x ∷ []
+
+-- each item by this view
+abbrev pub each : {X A : Type 0} → (X → A) → View X A
+each see = record { one = see; all = map see; none = refl; more = λ xs x. map-append see xs (x ∷ []) }
+
+-- each item as it is
+abbrev pub plain : {A : Type 0} → View A A
+plain = record { one = λ x. x; all = λ xs. xs; none = refl; more = λ xs x. refl }
+
+module _ {X A V : Type 0} (P : A → Type 0) (f : A → Data) (v : View X A) (g : V → Data) (Gave : V → Option X → Type 0)
+    (some : (d : V) (x : X) → Gave d (Some x) → P (v.one x) × (f (v.one x) ≡ g d))
+    (none : (d : V) → Gave d None → (a : A) → P a → f a ≡ g d → ⊥) where
+  abbrev AreItems : List V → List X → Type 0
+  AreItems ds xs = Each P (v.all xs) × (map f (v.all xs) ≡ map g ds)
+
+  none_read : AreItems [] []
+  unfolding plan_definitions
+  none_read = (subst (Each P) (sym v.none) tt, ap (map f) v.none)
+
+  one_more : (ds : List V) (xs : List X) (d : V) (ys : List X) → AreItems ds xs → Pushed Gave xs d ys → AreItems (ds ++ d ∷ []) ys
+  one_more ds xs d ys h p =
+      let got = some d p.item p.gave in
+      let all = ap v.all p.is ∙ v.more xs p.item in (
+        subst (Each P) (sym all) (each_more P (v.all xs) (v.one p.item) h.0 got.0),
+        ap (map f) all ∙ map-append f (v.all xs) (v.one p.item ∷ []) ∙ ap₂ ◌++◌ h.1 (ap (λ e. e ∷ []) got.1) ∙ sym (map-append g ds (d ∷ [])),
+      )
+
+  -- a list whose items were read one by one is read as a whole
+  pub list_gave : {L : Type 0} → (items : L → List X) (d : Data) (o : Option L) → ListGave g Gave d (option_map items o) →
+      IsRead (Each P) (λ xs. list_data (map f xs)) d (option_map (λ l. v.all (items l)) o)
+  list_gave items d None h = λ xs p q.
+      let at = h (map f xs) q in
+      let u = at.2 in
+      none_if P f g at.0 u.place u.value u.within (none (slice_index_or at.0 u.place u.value) u.gave) xs p (sym at.1)
+  list_gave items d (Some l) h =
+      let all = chained_keeps (Pushed Gave) AreItems one_more h.0 [] (items l) none_read h.2 in
+      (all.0, ap list_data all.1 ∙ h.1)
+
 pub same_length : (ds es : List Data) (d : Data) → list_data ds ≡ d → list_data es ≡ d → length ds ≡ length es
 same_length ds es d p q = ap length (same_list ds es (p ∙ sym q))
 
@@ -92,6 +140,11 @@ object_is (array ds) ms e = absurd cc
 -- the numbers of a list of the code
 abbrev pub row : Vec ℤ Global → List ℤ
 row b = b.items
+
+-- numbers with the data of a list of the code are as many
+pub same_count : (ns : List ℤ) (d : Data) (o : Option (Vec ℤ Global)) (b : Vec ℤ Global) → o ≡ Some b → IsRead (Each IsWord) wholes_data d (option_map row o) → wholes_data ns ≡ d →
+    length ns ≡ length b.items
+same_count ns d o b e h q = ap length (same_wholes ns b.items (q ∙ sym (read_some (Each IsWord) wholes_data d row o b e h).1))
 
 -- ---- members of objects
 abbrev members_in : Data → Members

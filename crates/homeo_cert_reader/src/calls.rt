@@ -10,8 +10,8 @@ ghost use Rattle.homeo_cert_reader.specs.Read.{IsRead};
 ghost use Rattle.homeo_cert_reader.specs.inner.Reading.{AreCalls};
 
 use crate::extents::Extents;
-use crate::items::items;
-use crate::members::call_parts;
+use crate::items::{items, read_list};
+use crate::members::read_pair;
 use crate::named_nodes::read_nodes;
 use crate::numbers::number_below;
 use crate::parsing_commands::whole_command;
@@ -32,7 +32,7 @@ pub struct Call {
 fn read_call(alloc: Global, value: &Value, extents: Extents) -> Result<Option<Call>, Memory>
     ensures { IfOk result (λ o. IsRead (CallInShape extents.objects extents.sites) call_data (view value.now) (option_map plain_call o)) }
 {
-    let Some((command, site)) = call_parts(value) else {
+    let Some((command, site)) = read_pair(value, "command", "site") else {
         return Ok(None);
     };
     let Some(site) = number_below(site, extents.sites) else {
@@ -61,12 +61,5 @@ pub(crate) fn read_calls(
     if items.len() > 1024 {
         return Ok(None);
     }
-    let mut calls = Vec::with_capacity(alloc, items.len())?;
-    for item in items {
-        match read_call(alloc, item, extents)? {
-            Some(g) => calls.push(g)?,
-            None => return Ok(None),
-        }
-    }
-    Ok(Some(calls))
+    read_list(alloc, value, |item| read_call(alloc, item, extents))
 }

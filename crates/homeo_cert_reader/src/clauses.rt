@@ -13,8 +13,8 @@ ghost use Rattle.homeo_cert_reader.specs.inner.Reading.{IsFactor};
 
 use crate::deltas::{delta_of, is_before};
 use crate::extents::Extents;
-use crate::items::items;
-use crate::members::clause_parts;
+use crate::items::{items, read_list};
+use crate::members::read_pair;
 use crate::numbers::{whole, wholes};
 use homeo_plan::{Clause, Term};
 use homeo_syntax::{List, Memory};
@@ -54,17 +54,7 @@ fn nonzero(value: &Value) -> Option<i128>
 fn read_terms(alloc: Global, value: &Value, extents: Extents) -> Result<Option<Vec<Term>>, Memory>
     ensures { IfOk result (λ o. IsRead (Each (TermInShape extents.objects extents.sites)) (λ ts. list_data (map term_data ts)) (view value.now) (option_map (λ l. l.items) o)) }
 {
-    let Some(items) = items(value) else {
-        return Ok(None);
-    };
-    let mut terms = Vec::with_capacity(alloc, items.len())?;
-    for item in items {
-        match read_term(item, extents) {
-            Some(t) => terms.push(t)?,
-            None => return Ok(None),
-        }
-    }
-    Ok(Some(terms))
+    read_list(alloc, value, |item| Ok(read_term(item, extents)))
 }
 
 /// Whether the deltas of terms are in order, each once.
@@ -83,7 +73,7 @@ fn terms_are_in_order(terms: &[Term]) -> bool
 fn read_clause(alloc: Global, value: &Value, extents: Extents) -> Result<Option<Clause>, Memory>
     ensures { IfOk result (λ o. IsRead (ClauseInShape extents.objects extents.sites) clause_data (view value.now) (option_map plain_clause o)) }
 {
-    let Some((slack, list)) = clause_parts(value) else {
+    let Some((slack, list)) = read_pair(value, "slack", "terms") else {
         return Ok(None);
     };
     let Some(slack) = whole(slack) else {
@@ -116,17 +106,7 @@ pub(crate) fn read_clauses(
 ) -> Result<Option<Vec<Clause>>, Memory>
     ensures { IfOk result (λ o. IsRead (Each (ClauseInShape extents.objects extents.sites)) (λ cs. list_data (map clause_data cs)) (view value.now) (option_map (λ l. map plain_clause l.items) o)) }
 {
-    let Some(items) = items(value) else {
-        return Ok(None);
-    };
-    let mut clauses = Vec::with_capacity(alloc, items.len())?;
-    for item in items {
-        match read_clause(alloc, item, extents)? {
-            Some(c) => clauses.push(c)?,
-            None => return Ok(None),
-        }
-    }
-    Ok(Some(clauses))
+    read_list(alloc, value, |item| read_clause(alloc, item, extents))
 }
 
 /// A bound for each of so many sites.
@@ -151,15 +131,5 @@ pub(crate) fn read_all_bounds(
 ) -> Result<Option<Vec<Vec<i64>>>, Memory>
     ensures { IfOk result (λ o. IsRead (Each (BoundsInShape sites)) (λ bs. list_data (map wholes_data bs)) (view value.now) (option_map (λ l. map (λ b. b.items) l.items) o)) }
 {
-    let Some(items) = items(value) else {
-        return Ok(None);
-    };
-    let mut all = Vec::with_capacity(alloc, items.len())?;
-    for item in items {
-        match read_bounds(alloc, item, sites)? {
-            Some(b) => all.push(b)?,
-            None => return Ok(None),
-        }
-    }
-    Ok(Some(all))
+    read_list(alloc, value, |item| read_bounds(alloc, item, sites))
 }

@@ -12,7 +12,7 @@ ghost use Rattle.homeo_cert_reader.specs.inner.Reading.{AreFreezes};
 
 use crate::extents::Extents;
 use crate::freezes::Freezes;
-use crate::items::items;
+use crate::items::{items, read_list};
 use crate::numbers::number_below;
 use homeo_plan::Delta;
 use homeo_syntax::Memory;
@@ -44,17 +44,7 @@ pub(crate) fn delta_of(object: &Value, site: &Value, extents: Extents) -> Option
 fn read_deltas(alloc: Global, value: &Value, extents: Extents) -> Result<Option<Vec<Delta>>, Memory>
     ensures { IfOk result (λ o. IsRead (Each (DeltaInShape extents.objects extents.sites)) (λ ds. list_data (map delta_data ds)) (view value.now) (option_map (λ l. l.items) o)) }
 {
-    let Some(items) = items(value) else {
-        return Ok(None);
-    };
-    let mut deltas = Vec::with_capacity(alloc, items.len())?;
-    for item in items {
-        match read_delta(item, extents) {
-            Some(d) => deltas.push(d)?,
-            None => return Ok(None),
-        }
-    }
-    Ok(Some(deltas))
+    read_list(alloc, value, |item| Ok(read_delta(item, extents)))
 }
 
 /// A list of deltas in order, each once.

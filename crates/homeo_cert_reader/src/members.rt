@@ -1,6 +1,6 @@
 //! Objects of a certificate, whose members stand in the order of their keys.
 
-ghost use Rattle.std.specs.Prelude.{◌≡◌, MatchOption, codes};
+ghost use Rattle.std.specs.Prelude.{◌≡◌, MatchOption};
 ghost use Rattle.serde_json.specs.Data.{Data, Members, object, member as member_data, no_members};
 ghost use Rattle.serde_json.specs.View.{view, members_view};
 ghost use Rattle.homeo_cert_reader.specs.inner.Reading.{parts_data};
@@ -22,34 +22,23 @@ pub(crate) fn member<'a>(members: &mut Iter<'a, String, Value>, key: &str) -> Op
     }
 }
 
-/// The command and the site of a call.
-pub(crate) fn call_parts(value: &Value) -> Option<(&Value, &Value)>
+/// The values of an object's two members, if these are their keys.
+pub(crate) fn read_pair<'a>(
+    value: &'a Value,
+    first: &str,
+    second: &str,
+) -> Option<(&'a Value, &'a Value)>
     ensures { MatchOption result
-        ((c s : Data) → object (member_data (codes "command") c (member_data (codes "site") s no_members)) ≡ view value.now → ⊥)
-        (λ p. object (member_data (codes "command") (view p.0.now) (member_data (codes "site") (view p.1.now) no_members)) ≡ view value.now) }
+        ((d e : Data) → object (member_data first.now d (member_data second.now e no_members)) ≡ view value.now → ⊥)
+        (λ p. object (member_data first.now (view p.0.now) (member_data second.now (view p.1.now) no_members)) ≡ view value.now) }
 {
     let mut members = value.as_object()?.iter();
-    let command = member(&mut members, "command")?;
-    let site = member(&mut members, "site")?;
+    let one = member(&mut members, first)?;
+    let other = member(&mut members, second)?;
     if members.next().is_some() {
         return None;
     }
-    Some((command, site))
-}
-
-/// The slack and the terms of a clause.
-pub(crate) fn clause_parts(value: &Value) -> Option<(&Value, &Value)>
-    ensures { MatchOption result
-        ((s t : Data) → object (member_data (codes "slack") s (member_data (codes "terms") t no_members)) ≡ view value.now → ⊥)
-        (λ p. object (member_data (codes "slack") (view p.0.now) (member_data (codes "terms") (view p.1.now) no_members)) ≡ view value.now) }
-{
-    let mut members = value.as_object()?.iter();
-    let slack = member(&mut members, "slack")?;
-    let terms = member(&mut members, "terms")?;
-    if members.next().is_some() {
-        return None;
-    }
-    Some((slack, terms))
+    Some((one, other))
 }
 
 /// The values of the next two members, if these are their keys.

@@ -11,7 +11,7 @@ ghost use Rattle.homeo_certificate.specs.NodeShapes.{NodeInShape};
 
 use crate::deltas::delta_of;
 use crate::extents::Extents;
-use crate::items::items;
+use crate::items::{items, read_list};
 use crate::numbers::{count, number_below, temp_number, whole};
 use homeo_certificate::Node;
 use homeo_syntax::{Compare, Memory, Temp};
@@ -106,15 +106,5 @@ pub(crate) fn read_nodes(
 ) -> Result<Option<Vec<Node>>, Memory>
     ensures { IfOk result (λ o. IsRead (Each (NodeInShape extents.objects extents.sites)) (λ ns. list_data (map node_data ns)) (view value.now) (option_map (λ l. l.items) o)) }
 {
-    let Some(items) = items(value) else {
-        return Ok(None);
-    };
-    let mut nodes = Vec::with_capacity(alloc, items.len())?;
-    for item in items {
-        match read_node(item, extents) {
-            Some(n) => nodes.push(n)?,
-            None => return Ok(None),
-        }
-    }
-    Ok(Some(nodes))
+    read_list(alloc, value, |item| Ok(read_node(item, extents)))
 }

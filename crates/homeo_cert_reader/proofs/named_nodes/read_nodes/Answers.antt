@@ -1,29 +1,12 @@
-use Rattle.std.proofs.Common.{◌+◌, map, Some, None, sym, ap, ◌∙◌, subst}
+use Rattle.std.proofs.Common.{rules}
+use Rattle.std.proofs.lemmas.Result.{IfOk-weaker}
 use Rattle.serde_json.specs.View.{view}
 use Rattle.homeo_certificate.specs.Json.{node_data}
 use Rattle.homeo_certificate.specs.NodeShapes.{NodeInShape}
-use Rattle.homeo_cert_reader.proofs.ReadLists.{Front, front_none, front_more, front_all, none_if, list_read}
+use Rattle.homeo_cert_reader.proofs.ReadLists.{plain, list_gave}
 use Rattle.homeo_cert_reader.proofs.named_nodes.read_nodes.Goals as goal
-
-pub loop-item-init : goal.loop-item-init
-loop-item-init c =
-    subst (λ l. Front (NodeInShape c.args.extents.objects c.args.extents.sites) node_data view c.in-Some.items.now 0 (l)) (sym c.in_ok-nodes.ensures.items) (front_none (NodeInShape c.args.extents.objects c.args.extents.sites) node_data view c.in-Some.items.now)
-
-pub returns-in-None : goal.returns-in-None
-returns-in-None c =
-    list_read (NodeInShape c.args.extents.objects c.args.extents.sites) node_data (map view c.in-Some.items.now) (view c.args.value.now) None c.in-Some.ensures
-    (none_if (NodeInShape c.args.extents.objects c.args.extents.sites) node_data view c.in-Some.items.now c.loop-item.item-index c.item-item.result c.loop-item-test.true
-    (λ x p e. let n = c.in-None.ensures in n x p (e ∙ ap view (sym c.item-item.is))))
-
-pub loop-item-preserved : goal.loop-item-preserved
-loop-item-preserved c =
-    let n = c.loop-item.item-index in
-    let got = c.in-Some-read_node.ensures in
-    subst (λ l. Front (NodeInShape c.args.extents.objects c.args.extents.sites) node_data view c.in-Some.items.now (n + 1) (l)) (sym c.in_ok-push-in-Some-read_node.ensures.items)
-    ((front_more (NodeInShape c.args.extents.objects c.args.extents.sites) node_data view c.in-Some.items.now n (c.loop-item.nodes.items) c.in-Some-read_node.n c.item-item.result c.loop-item-test.true
-    c.loop-item.invariant got.0 (got.1 ∙ ap view c.item-item.is)))
 
 pub returns : goal.returns
 returns c =
-    list_read (NodeInShape c.args.extents.objects c.args.extents.sites) node_data (map view c.in-Some.items.now) (view c.args.value.now) (Some (c.loop-item.nodes.items)) c.in-Some.ensures
-    (front_all (NodeInShape c.args.extents.objects c.args.extents.sites) node_data view c.in-Some.items.now c.loop-item.item-index (c.loop-item.nodes.items) c.loop-item-test.false c.loop-item.invariant)
+    IfOk-weaker c.read_list.result _ _ (λ o h. list_gave (NodeInShape c.args.extents.objects c.args.extents.sites) node_data plain view _ (λ d x k. search rules) (λ d k. search rules) (λ l. l.items) _ o h)
+    c.read_list.ensures

@@ -1,5 +1,5 @@
 -- Each kind of command, and one more of them.
-use Rattle.std.proofs.Common.{rules, ◌≡◌, suc, map, IfOk, Some, option_map, ◌+◌, ◌-◌, [], ◌∷◌, sym, ap, ap₂, ◌∙◌, subst, arith}
+use Rattle.std.proofs.Common.{rules, ◌≡◌, suc, map, IfOk, Some, option_map, ◌+◌, ◌-◌, [], ◌∷◌, sym, ap, ap₂, ◌∙◌, subst, arith, refl}
 use Rattle.std.proofs.lemmas.List.{map-append}
 use Rattle.homeo_syntax.specs.declared.low.SplitName.TheVariants as split
 use Rattle.homeo_syntax.specs.Low.{Write, Print, Seq}
@@ -7,14 +7,16 @@ use Rattle.homeo_syntax.specs.LowView.{plain_lcommand, plain_lexpr, low_commands
 use Rattle.homeo_syntax.proofs.LowViews.{low_command_views}
 use Rattle.homeo_certificate.specs.Key.{definitions}
 use Rattle.homeo_certificate.specs.Parse.{seen, many, parse_command, Gives}
-use Rattle.homeo_cert_reader.proofs.ParseSteps.{no_command_without_nodes, no_command_without_levels, first_of, other_command, with_read, with_none, with_one_more, with_failed, with_all, given_some, given_none}
+use Rattle.homeo_cert_reader.proofs.ParseSteps.{without_nodes, without_levels, first_of, other_command, with_read, with_none, with_one_more, with_failed, with_all, given_some, given_none}
 use Rattle.homeo_cert_reader.proofs.parsing_commands.+commands.Goals as goal
 
 pub command-returns-then-levels-eq0 : goal.command-returns-then-levels-eq0
-command-returns-then-levels-eq0 t c = no_command_without_levels c.args.levels c.args.nodes.now (omega arith)
+unfolding definitions
+command-returns-then-levels-eq0 t c = without_levels parse_command c.args.levels c.args.nodes.now refl (omega arith)
 
 pub command-returns-in_default : goal.command-returns-in_default
-command-returns-in_default t c = no_command_without_nodes c.args.levels c.args.nodes.now (grind arith)
+unfolding definitions
+command-returns-in_default t c = without_nodes parse_command refl (λ m. refl) c.args.levels c.args.nodes.now (grind arith)
 
 pub command-returns-in-Skip : goal.command-returns-in-Skip
 unfolding definitions

@@ -1,14 +1,16 @@
-use Rattle.std.proofs.Common.{arith}
+use Rattle.std.proofs.Common.{arith, refl}
 use Rattle.homeo_certificate.specs.Key.{definitions}
 use Rattle.homeo_certificate.specs.Parse.{parse_temp}
-use Rattle.homeo_cert_reader.proofs.ParseSteps.{no_temp_without_nodes, no_temp_without_levels, first_of, other_temp}
+use Rattle.homeo_cert_reader.proofs.ParseSteps.{without_nodes, without_levels, first_of, other_temp}
 use Rattle.homeo_cert_reader.proofs.parsing_commands.temporary.Goals as goal
 
 pub returns-then-levels-eq0 : goal.returns-then-levels-eq0
-returns-then-levels-eq0 c = no_temp_without_levels c.args.levels c.args.nodes.now (omega arith)
+unfolding definitions
+returns-then-levels-eq0 c = without_levels parse_temp c.args.levels c.args.nodes.now refl (omega arith)
 
 pub returns-in_default : goal.returns-in_default
-returns-in_default c = no_temp_without_nodes c.args.levels c.args.nodes.now (grind arith)
+unfolding definitions
+returns-in_default c = without_nodes parse_temp refl (λ m. refl) c.args.levels c.args.nodes.now (grind arith)
 
 pub returns-in-Temp : goal.returns-in-Temp
 unfolding definitions

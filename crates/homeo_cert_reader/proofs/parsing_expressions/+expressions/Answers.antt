@@ -6,38 +6,40 @@ use Rattle.homeo_syntax.specs.LowView.{plain_lexpr, low_exprs}
 use Rattle.homeo_syntax.proofs.LowViews.{low_phrase_views}
 use Rattle.homeo_certificate.specs.Key.{definitions}
 use Rattle.homeo_certificate.specs.Parse.{seen, many, parse_expr}
-use Rattle.homeo_cert_reader.proofs.ParseSteps.{none_without_nodes, none_without_levels, first_node, other_node, with_read, with_none, with_one_more, with_failed, with_all, given_some, given_none}
+use Rattle.homeo_cert_reader.proofs.ParseSteps.{without_nodes, without_levels, first_of, other_node, with_read, with_none, with_one_more, with_failed, with_all, given_some, given_none}
 use Rattle.homeo_cert_reader.proofs.parsing_expressions.+expressions.Goals as goal
 
 pub expression-returns-then-levels-eq0 : goal.expression-returns-then-levels-eq0
-expression-returns-then-levels-eq0 t c = none_without_levels c.args.levels c.args.nodes.now (omega arith)
+unfolding definitions
+expression-returns-then-levels-eq0 t c = without_levels parse_expr c.args.levels c.args.nodes.now refl (omega arith)
 
 pub expression-returns-in_default : goal.expression-returns-in_default
-expression-returns-in_default t c = none_without_nodes c.args.levels c.args.nodes.now (grind arith)
+unfolding definitions
+expression-returns-in_default t c = without_nodes parse_expr refl (λ m. refl) c.args.levels c.args.nodes.now (grind arith)
 
 pub expression-returns-in-Literal : goal.expression-returns-in-Literal
 unfolding definitions
 expression-returns-in-Literal t c =
     let kept = kept_is c.in-Literal.n c.in-Literal.n (search rules) refl in
-    first_node c.args.levels _ _ c.args.nodes.now c.next.new.self (omega arith) c.in-Some.ensures c.in-Literal.is
+    first_of parse_expr c.args.levels _ _ c.args.nodes.now c.next.new.self (omega arith) c.in-Some.ensures c.in-Literal.is
     ∙ ap (λ e. Some (e, c.next.new.self)) (ap Literal (sym kept) ∙ sym (search (rules, low_phrase_views)))
 
 pub expression-returns-in-Temp : goal.expression-returns-in-Temp
 unfolding definitions
 expression-returns-in-Temp t c =
-    first_node c.args.levels _ _ c.args.nodes.now c.next.new.self (omega arith) c.in-Some.ensures c.in-Temp.is
+    first_of parse_expr c.args.levels _ _ c.args.nodes.now c.next.new.self (omega arith) c.in-Some.ensures c.in-Temp.is
     ∙ ap (λ e. Some (e, c.next.new.self)) (sym (search (rules, low_phrase_views)))
 
 pub expression-returns-in-Base : goal.expression-returns-in-Base
 unfolding definitions
 expression-returns-in-Base t c =
-    first_node c.args.levels _ _ c.args.nodes.now c.next.new.self (omega arith) c.in-Some.ensures c.in-Base.is
+    first_of parse_expr c.args.levels _ _ c.args.nodes.now c.next.new.self (omega arith) c.in-Some.ensures c.in-Base.is
     ∙ ap (λ e. Some (e, c.next.new.self)) (sym (search (rules, low_phrase_views)))
 
 pub expression-returns-in-Delta : goal.expression-returns-in-Delta
 unfolding definitions
 expression-returns-in-Delta t c =
-    first_node c.args.levels _ _ c.args.nodes.now c.next.new.self (omega arith) c.in-Some.ensures c.in-Delta.is
+    first_of parse_expr c.args.levels _ _ c.args.nodes.now c.next.new.self (omega arith) c.in-Some.ensures c.in-Delta.is
     ∙ ap (λ e. Some (e, c.next.new.self)) (sym (search (rules, low_phrase_views)))
 
 pub expression-returns-in-Some-2 : goal.expression-returns-in-Some-2
@@ -45,14 +47,14 @@ unfolding definitions
 expression-returns-in-Some-2 t c =
     let p = c.expressions.new.nodes in
     let got = given_some _ _ c.in_ok-es-in-Sum.field-0 c.in-Some-2.es p c.in-Some-2.is c.in_ok-es-in-Sum.ensures in
-    first_node c.args.levels _ _ c.args.nodes.now c.next.new.self (omega arith) c.in-Some.ensures c.in-Sum.is
+    first_of parse_expr c.args.levels _ _ c.args.nodes.now c.next.new.self (omega arith) c.in-Some.ensures c.in-Sum.is
     ∙ ap (seen (λ es. Sum (low_exprs es))) got ∙ ap (λ e. Some (e, p)) (sym (search (rules, low_phrase_views)))
 
 pub expression-returns-in-None : goal.expression-returns-in-None
 unfolding definitions
 expression-returns-in-None t c =
     let got = given_none _ _ c.in_ok-es-in-Sum.field-0 c.expressions.new.nodes c.in-None.is c.in_ok-es-in-Sum.ensures in
-    first_node c.args.levels _ _ c.args.nodes.now c.next.new.self (omega arith) c.in-Some.ensures c.in-Sum.is
+    first_of parse_expr c.args.levels _ _ c.args.nodes.now c.next.new.self (omega arith) c.in-Some.ensures c.in-Sum.is
     ∙ ap (seen (λ es. Sum (low_exprs es))) got
 
 pub expression-returns-in-Some-3 : goal.expression-returns-in-Some-3
@@ -60,14 +62,14 @@ unfolding definitions
 expression-returns-in-Some-3 t c =
     let p = c.expressions-in-Product.new.nodes in
     let got = given_some _ _ c.in_ok-es-in-Product.field-0 c.in-Some-3.es p c.in-Some-3.is c.in_ok-es-in-Product.ensures in
-    first_node c.args.levels _ _ c.args.nodes.now c.next.new.self (omega arith) c.in-Some.ensures c.in-Product.is
+    first_of parse_expr c.args.levels _ _ c.args.nodes.now c.next.new.self (omega arith) c.in-Some.ensures c.in-Product.is
     ∙ ap (seen (λ es. Product (low_exprs es))) got ∙ ap (λ e. Some (e, p)) (sym (search (rules, low_phrase_views)))
 
 pub expression-returns-in-None-2 : goal.expression-returns-in-None-2
 unfolding definitions
 expression-returns-in-None-2 t c =
     let got = given_none _ _ c.in_ok-es-in-Product.field-0 c.expressions-in-Product.new.nodes c.in-None-2.is c.in_ok-es-in-Product.ensures in
-    first_node c.args.levels _ _ c.args.nodes.now c.next.new.self (omega arith) c.in-Some.ensures c.in-Product.is
+    first_of parse_expr c.args.levels _ _ c.args.nodes.now c.next.new.self (omega arith) c.in-Some.ensures c.in-Product.is
     ∙ ap (seen (λ es. Product (low_exprs es))) got
 
 pub expression-returns-in_ok-new-in-Some-4 : goal.expression-returns-in_ok-new-in-Some-4
@@ -75,7 +77,7 @@ unfolding definitions
 expression-returns-in_ok-new-in-Some-4 t c =
     let p = c.expression.new.nodes in
     let got = given_some _ plain_lexpr c.in_ok-e-in-Neg.field-0 c.in-Some-4.e p c.in-Some-4.is c.in_ok-e-in-Neg.ensures in
-    first_node c.args.levels _ _ c.args.nodes.now c.next.new.self (omega arith) c.in-Some.ensures c.in-Neg.is
+    first_of parse_expr c.args.levels _ _ c.args.nodes.now c.next.new.self (omega arith) c.in-Some.ensures c.in-Neg.is
     ∙ ap (seen Neg) got ∙ ap (λ e. Some (Neg (plain_lexpr e), p)) (sym c.in_ok-new-in-Some-4.ensures.ok)
     ∙ ap (λ e. Some (e, p)) (sym (search (rules, low_phrase_views)))
 
@@ -83,7 +85,7 @@ pub expression-returns-in-None-3 : goal.expression-returns-in-None-3
 unfolding definitions
 expression-returns-in-None-3 t c =
     let got = given_none _ plain_lexpr c.in_ok-e-in-Neg.field-0 c.expression.new.nodes c.in-None-3.is c.in_ok-e-in-Neg.ensures in
-    first_node c.args.levels _ _ c.args.nodes.now c.next.new.self (omega arith) c.in-Some.ensures c.in-Neg.is ∙ ap (seen Neg) got
+    first_of parse_expr c.args.levels _ _ c.args.nodes.now c.next.new.self (omega arith) c.in-Some.ensures c.in-Neg.is ∙ ap (seen Neg) got
 
 pub expression-returns-in_default-node : goal.expression-returns-in_default-node
 expression-returns-in_default-node t c =

@@ -1,19 +1,21 @@
 -- Each kind of test, and one more of them.
-use Rattle.std.proofs.Common.{rules, ◌≡◌, suc, map, IfOk, Some, option_map, ◌+◌, ◌-◌, [], ◌∷◌, sym, ap, ap₂, ◌∙◌, subst, arith}
+use Rattle.std.proofs.Common.{rules, ◌≡◌, suc, map, IfOk, Some, option_map, ◌+◌, ◌-◌, [], ◌∷◌, sym, ap, ap₂, ◌∙◌, subst, arith, refl}
 use Rattle.std.proofs.lemmas.List.{map-append}
 use Rattle.homeo_syntax.specs.Low.{Not}
 use Rattle.homeo_syntax.specs.LowView.{plain_ltest, low_tests}
 use Rattle.homeo_syntax.proofs.LowViews.{low_phrase_views}
 use Rattle.homeo_certificate.specs.Key.{definitions}
 use Rattle.homeo_certificate.specs.Parse.{seen, many, parse_test, Gives}
-use Rattle.homeo_cert_reader.proofs.ParseSteps.{no_test_without_nodes, no_test_without_levels, first_of, other_test, with_read, with_none, with_one_more, with_failed, with_all, given_some, given_none}
+use Rattle.homeo_cert_reader.proofs.ParseSteps.{without_nodes, without_levels, first_of, other_test, with_read, with_none, with_one_more, with_failed, with_all, given_some, given_none}
 use Rattle.homeo_cert_reader.proofs.parsing_tests.+tests.Goals as goal
 
 pub test-returns-then-levels-eq0 : goal.test-returns-then-levels-eq0
-test-returns-then-levels-eq0 t c = no_test_without_levels c.args.levels c.args.nodes.now (omega arith)
+unfolding definitions
+test-returns-then-levels-eq0 t c = without_levels parse_test c.args.levels c.args.nodes.now refl (omega arith)
 
 pub test-returns-in_default : goal.test-returns-in_default
-test-returns-in_default t c = no_test_without_nodes c.args.levels c.args.nodes.now (grind arith)
+unfolding definitions
+test-returns-in_default t c = without_nodes parse_test refl (λ m. refl) c.args.levels c.args.nodes.now (grind arith)
 
 pub test-returns-in-True : goal.test-returns-in-True
 unfolding definitions
