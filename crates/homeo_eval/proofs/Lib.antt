@@ -13,3 +13,4 @@ pub mod StartLists
 pub mod States
 pub mod Thens
 pub mod ValuesFit
+pub mod VisitSteps
