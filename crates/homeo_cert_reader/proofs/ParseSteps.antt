@@ -1,7 +1,7 @@
 -- Reading one node, and then its parts.
 use Rattle.homeo_certificate.specs.Key.{definitions}
-use Rattle.std.proofs.Common.{◌≡◌, ℕ, zero, suc, ◌-◌, ◌<◌, List, [], ◌∷◌, ◌++◌, Option, Some, None, option_map, refl, ap, ap₂, ◌∙◌, subst, arith}
-use Rattle.std.proofs.lemmas.List.{append-nil}
+use Rattle.std.proofs.Common.{◌≡◌, ℕ, zero, suc, ◌+◌, ◌-◌, ◌<◌, ◌≤◌, List, [], ◌∷◌, ◌++◌, map, Option, Some, None, option_map, refl, sym, ap, ap₂, ◌∙◌, subst, arith}
+use Rattle.std.proofs.lemmas.List.{append-nil, map-append}
 use Rattle.homeo_certificate.specs.declared.nodes.Node.{Node}
 use Rattle.homeo_certificate.specs.declared.nodes.Node.TheVariants as node
 use Rattle.homeo_certificate.specs.Parse.{Parse, then, seen, many, parse_expr, parse_test, parse_temp, parse_command, Gives}
@@ -80,14 +80,14 @@ other_node m n ns rest e nl nt nb nd ns' np nn = ap (parse_expr m) e ∙ go m n 
     go (suc m) other nl nt nb nd ns np nn = refl
 
 -- ---- so many: what is left to read, in front of what was read
-abbrev pub with_read : {A : Type 0} → List A → Option (List A × List Node) → Option (List A × List Node)
+abbrev with_read : {A : Type 0} → List A → Option (List A × List Node) → Option (List A × List Node)
 with_read xs r = seen (λ more. xs ++ more) r
 
-pub with_none : {A : Type 0} (r : Option (List A × List Node)) → with_read [] r ≡ r
+with_none : {A : Type 0} (r : Option (List A × List Node)) → with_read [] r ≡ r
 with_none None = refl
 with_none (Some p) = refl
 
-pub with_one_more :
+with_one_more :
     {A : Type 0} (f : Parse A) (n : ℕ) (xs : List A) (x : A) (ns rest : List Node) → f ns ≡ Some (x, rest) →
     with_read xs (many f (suc n) ns) ≡ with_read (xs ++ x ∷ []) (many f n rest)
 unfolding definitions
@@ -102,13 +102,42 @@ with_one_more f n xs x ns rest e =
     go None = refl
     go (Some p) = ap (λ l. Some (l, p.1)) (assoc xs p.0)
 
-pub with_failed : {A : Type 0} (f : Parse A) (n : ℕ) (xs : List A) (ns : List Node) → f ns ≡ None → with_read xs (many f (suc n) ns) ≡ None
+with_failed : {A : Type 0} (f : Parse A) (n : ℕ) (xs : List A) (ns : List Node) → f ns ≡ None → with_read xs (many f (suc n) ns) ≡ None
 unfolding definitions
 with_failed f n xs ns e = ap (λ r. with_read xs (then r (λ a left. seen (λ more. a ∷ more) (many f n left)))) e
 
-pub with_all : {A : Type 0} (f : Parse A) (xs : List A) (ns : List Node) → with_read xs (many f 0 ns) ≡ Some (xs, ns)
+with_all : {A : Type 0} (f : Parse A) (xs : List A) (ns : List Node) → with_read xs (many f 0 ns) ≡ Some (xs, ns)
 unfolding definitions
 with_all f xs ns = ap (λ l. Some (l, ns)) (append-nil xs)
+
+-- n of so many are read as these, and what is left is still to be read
+abbrev pub SoFar : {A X : Type 0} → Parse A → (X → A) → ℕ → List Node → ℕ → List X → List Node → Type 0
+SoFar f see count all n xs left = many f count all ≡ with_read (map see xs) (many f (count - n) left)
+
+module _ {A X : Type 0} (f : Parse A) (see : X → A) (count : ℕ) (all : List Node) where
+  pub none_so_far : (xs : List X) → xs ≡ [] → SoFar f see count all 0 xs all
+  none_so_far xs e =
+      let m : count ≡ count - 0 = omega arith in
+      sym (with_none (many f count all)) ∙ ap₂ (λ ys k. with_read (map see ys) (many f k all)) (sym e) m
+
+  module _ (n : ℕ) (xs : List X) (ns : List Node) (so_far : SoFar f see count all n xs ns) where
+    pub one_so_far : n < count → (x : X) (rest : List Node) (ys : List X) → f ns ≡ Some (see x, rest) → ys ≡ xs ++ x ∷ [] → SoFar f see count all (n + 1) ys rest
+    one_so_far l x rest ys e p =
+        let m : count - n ≡ suc (count - (n + 1)) = omega (arith, l) in
+        so_far
+        ∙ ap (λ k. with_read (map see xs) (many f k ns)) m
+        ∙ with_one_more f (count - (n + 1)) (map see xs) (see x) ns rest e
+        ∙ ap (λ zs. with_read zs (many f (count - (n + 1)) rest)) (sym (map-append see xs (x ∷ [])) ∙ ap (map see) (sym p))
+
+    pub one_fails : n < count → f ns ≡ None → many f count all ≡ None
+    one_fails l e =
+        let m : count - n ≡ suc (count - (n + 1)) = omega (arith, l) in
+        so_far ∙ ap (λ k. with_read (map see xs) (many f k ns)) m ∙ with_failed f (count - (n + 1)) (map see xs) ns e
+
+    pub all_read : count ≤ n → many f count all ≡ Some (map see xs, ns)
+    all_read l =
+        let m : count - n ≡ 0 = omega (arith, l) in
+        so_far ∙ ap (λ k. with_read (map see xs) (many f k ns)) m ∙ with_all f (map see xs) ns
 
 -- ---- what a call gave
 pub given_some :

@@ -1,13 +1,12 @@
 -- Each kind of command, and one more of them.
-use Rattle.std.proofs.Common.{rules, ◌≡◌, suc, map, IfOk, Some, option_map, ◌+◌, ◌-◌, [], ◌∷◌, sym, ap, ap₂, ◌∙◌, subst, arith, refl}
-use Rattle.std.proofs.lemmas.List.{map-append}
+use Rattle.std.proofs.Common.{rules, IfOk, Some, option_map, sym, ap, ◌∙◌, subst, arith, refl}
 use Rattle.homeo_syntax.specs.declared.low.SplitName.TheVariants as split
 use Rattle.homeo_syntax.specs.Low.{Write, Print, Seq}
 use Rattle.homeo_syntax.specs.LowView.{plain_lcommand, plain_lexpr, low_commands}
 use Rattle.homeo_syntax.proofs.LowViews.{low_command_views}
 use Rattle.homeo_certificate.specs.Key.{definitions}
-use Rattle.homeo_certificate.specs.Parse.{seen, many, parse_command, Gives}
-use Rattle.homeo_cert_reader.proofs.ParseSteps.{without_nodes, without_levels, first_of, other_command, with_read, with_none, with_one_more, with_failed, with_all, given_some, given_none}
+use Rattle.homeo_certificate.specs.Parse.{seen, parse_command, Gives}
+use Rattle.homeo_cert_reader.proofs.ParseSteps.{without_nodes, without_levels, first_of, other_command, none_so_far, one_so_far, one_fails, all_read, given_some, given_none}
 use Rattle.homeo_cert_reader.proofs.parsing_commands.+commands.Goals as goal
 
 pub command-returns-then-levels-eq0 : goal.command-returns-then-levels-eq0
@@ -30,34 +29,20 @@ command-returns-in_default-node t c =
     other_command c.args.levels c.in-Some.node c.args.nodes.now c.next.new.self c.in-Some.ensures d.not-Skip d.not-Assign d.not-Write d.not-Print d.not-Seq d.not-If
 
 pub commands-loop-init : goal.commands-loop-init
-commands-loop-init t c =
-    let n : c.args.count ≡ c.args.count - 0 = omega arith in
-    sym (with_none (many (parse_command c.args.levels) c.args.count c.args.nodes.now))
-    ∙ ap₂ (λ xs k. with_read (map plain_lcommand xs) (many (parse_command c.args.levels) k c.args.nodes.now)) (sym (ap (λ l. l.items) c.in_ok-commands.ensures)) n
+commands-loop-init t c = none_so_far (parse_command c.args.levels) plain_lcommand c.args.count c.args.nodes.now _ (ap (λ l. l.items) c.in_ok-commands.ensures)
 
 pub commands-returns-in-None : goal.commands-returns-in-None
 commands-returns-in-None t c =
-    let n : c.args.count - c.loop.counter ≡ suc (c.args.count - (c.loop.counter + 1)) = omega (arith, c.loop-test.true) in
-    c.loop.invariant
-    ∙ ap (λ k. with_read (map plain_lcommand c.loop.commands.items) (many (parse_command c.args.levels) k c.loop.nodes)) n
-    ∙ with_failed (parse_command c.args.levels) _ _ c.loop.nodes (given_none _ plain_lcommand c.in_ok-c.field-0 c.command.new.nodes c.in-None.is c.in_ok-c.ensures)
+    one_fails (parse_command c.args.levels) plain_lcommand c.args.count c.args.nodes.now c.loop.counter c.loop.commands.items c.loop.nodes c.loop.invariant c.loop-test.true
+    (given_none _ plain_lcommand c.in_ok-c.field-0 c.command.new.nodes c.in-None.is c.in_ok-c.ensures)
 
 pub commands-loop-preserved : goal.commands-loop-preserved
 commands-loop-preserved t c =
-    let n : c.args.count - c.loop.counter ≡ suc (c.args.count - (c.loop.counter + 1)) = omega (arith, c.loop-test.true) in
-    c.loop.invariant
-    ∙ ap (λ k. with_read (map plain_lcommand c.loop.commands.items) (many (parse_command c.args.levels) k c.loop.nodes)) n
-    ∙ with_one_more (parse_command c.args.levels) _ (map plain_lcommand c.loop.commands.items) (plain_lcommand c.in-Some.c) c.loop.nodes c.command.new.nodes
-    (given_some _ plain_lcommand c.in_ok-c.field-0 c.in-Some.c c.command.new.nodes c.in-Some.is c.in_ok-c.ensures)
-    ∙ ap (λ xs. with_read xs (many (parse_command c.args.levels) (c.args.count - (c.loop.counter + 1)) c.command.new.nodes))
-    (sym (map-append plain_lcommand c.loop.commands.items (c.in-Some.c ∷ [])) ∙ ap (λ l. map plain_lcommand l.items) (sym c.in_ok-push-in-Some.ensures.ok))
+    one_so_far (parse_command c.args.levels) plain_lcommand c.args.count c.args.nodes.now c.loop.counter c.loop.commands.items c.loop.nodes c.loop.invariant c.loop-test.true c.in-Some.c c.command.new.nodes _
+    (given_some _ plain_lcommand c.in_ok-c.field-0 c.in-Some.c c.command.new.nodes c.in-Some.is c.in_ok-c.ensures) (ap (λ l. l.items) c.in_ok-push-in-Some.ensures.ok)
 
 pub commands-returns : goal.commands-returns
-commands-returns t c =
-    let n : c.args.count - c.loop.counter ≡ 0 = omega (arith, c.loop-test.false) in
-    c.loop.invariant
-    ∙ ap (λ k. with_read (map plain_lcommand c.loop.commands.items) (many (parse_command c.args.levels) k c.loop.nodes)) n
-    ∙ with_all (parse_command c.args.levels) (map plain_lcommand c.loop.commands.items) c.loop.nodes
+commands-returns t c = all_read (parse_command c.args.levels) plain_lcommand c.args.count c.args.nodes.now c.loop.counter c.loop.commands.items c.loop.nodes c.loop.invariant c.loop-test.false
 
 pub command-returns-in-Assign : goal.command-returns-in-Assign
 unfolding definitions

@@ -1,7 +1,7 @@
-use Rattle.std.proofs.Common.{◌≡◌, ◌+◌, ◌-◌, ◌*◌, map}
+use Rattle.std.proofs.Common.{◌+◌, ◌*◌}
 use Rattle.homeo_syntax.specs.LowView.{plain_lcommand}
-use Rattle.homeo_certificate.specs.Parse.{many, parse_command}
-use Rattle.homeo_cert_reader.proofs.ParseSteps.{with_read}
+use Rattle.homeo_certificate.specs.Parse.{parse_command}
+use Rattle.homeo_cert_reader.proofs.ParseSteps.{SoFar}
 use Rattle.homeo_cert_reader.proofs.parsing_commands.+commands.Given as goal
 
 abbrev pub decreases-command : goal.decreases-command
@@ -17,6 +17,4 @@ abbrev pub decreases-commands : goal.decreases-commands
 decreases-commands l = 4 * l.levels + 1
 
 abbrev pub invariant-commands-loop : goal.invariant-commands-loop
-invariant-commands-loop l =
-    many (parse_command l.levels) l.count l.initial.nodes ≡
-    with_read (map plain_lcommand l.commands.items) (many (parse_command l.levels) (l.count - l.counter) l.nodes)
+invariant-commands-loop l = SoFar (parse_command l.levels) plain_lcommand l.count l.initial.nodes l.counter l.commands.items l.nodes

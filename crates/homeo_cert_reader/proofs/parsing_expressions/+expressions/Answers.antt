@@ -1,12 +1,11 @@
-use Rattle.std.proofs.Common.{rules, ◌≡◌, suc, map, Some, ◌+◌, ◌-◌, [], ◌∷◌, sym, ap, ap₂, ◌∙◌, arith, refl}
-use Rattle.std.proofs.lemmas.List.{map-append}
+use Rattle.std.proofs.Common.{rules, Some, sym, ap, ◌∙◌, arith, refl}
 use Rattle.homeo_meaning.proofs.Numbers.{kept_is}
 use Rattle.homeo_syntax.specs.Low.{Literal, Sum, Product, Neg}
 use Rattle.homeo_syntax.specs.LowView.{plain_lexpr, low_exprs}
 use Rattle.homeo_syntax.proofs.LowViews.{low_phrase_views}
 use Rattle.homeo_certificate.specs.Key.{definitions}
-use Rattle.homeo_certificate.specs.Parse.{seen, many, parse_expr}
-use Rattle.homeo_cert_reader.proofs.ParseSteps.{without_nodes, without_levels, first_of, other_node, with_read, with_none, with_one_more, with_failed, with_all, given_some, given_none}
+use Rattle.homeo_certificate.specs.Parse.{seen, parse_expr}
+use Rattle.homeo_cert_reader.proofs.ParseSteps.{without_nodes, without_levels, first_of, other_node, none_so_far, one_so_far, one_fails, all_read, given_some, given_none}
 use Rattle.homeo_cert_reader.proofs.parsing_expressions.+expressions.Goals as goal
 
 pub expression-returns-then-levels-eq0 : goal.expression-returns-then-levels-eq0
@@ -93,31 +92,17 @@ expression-returns-in_default-node t c =
     other_node c.args.levels c.in-Some.node c.args.nodes.now c.next.new.self c.in-Some.ensures d.not-Literal d.not-Temp d.not-Base d.not-Delta d.not-Sum d.not-Product d.not-Neg
 
 pub expressions-loop-init : goal.expressions-loop-init
-expressions-loop-init t c =
-    let n : c.args.count ≡ c.args.count - 0 = omega arith in
-    sym (with_none (many (parse_expr c.args.levels) c.args.count c.args.nodes.now))
-    ∙ ap₂ (λ xs k. with_read (map plain_lexpr xs) (many (parse_expr c.args.levels) k c.args.nodes.now)) (sym (ap (λ l. l.items) c.in_ok-es.ensures)) n
+expressions-loop-init t c = none_so_far (parse_expr c.args.levels) plain_lexpr c.args.count c.args.nodes.now _ (ap (λ l. l.items) c.in_ok-es.ensures)
 
 pub expressions-returns-in-None : goal.expressions-returns-in-None
 expressions-returns-in-None t c =
-    let n : c.args.count - c.loop.counter ≡ suc (c.args.count - (c.loop.counter + 1)) = omega (arith, c.loop-test.true) in
-    c.loop.invariant
-    ∙ ap (λ k. with_read (map plain_lexpr c.loop.es.items) (many (parse_expr c.args.levels) k c.loop.nodes)) n
-    ∙ with_failed (parse_expr c.args.levels) _ _ c.loop.nodes (given_none _ plain_lexpr c.in_ok-e.field-0 c.expression.new.nodes c.in-None.is c.in_ok-e.ensures)
+    one_fails (parse_expr c.args.levels) plain_lexpr c.args.count c.args.nodes.now c.loop.counter c.loop.es.items c.loop.nodes c.loop.invariant c.loop-test.true
+    (given_none _ plain_lexpr c.in_ok-e.field-0 c.expression.new.nodes c.in-None.is c.in_ok-e.ensures)
 
 pub expressions-loop-preserved : goal.expressions-loop-preserved
 expressions-loop-preserved t c =
-    let n : c.args.count - c.loop.counter ≡ suc (c.args.count - (c.loop.counter + 1)) = omega (arith, c.loop-test.true) in
-    c.loop.invariant
-    ∙ ap (λ k. with_read (map plain_lexpr c.loop.es.items) (many (parse_expr c.args.levels) k c.loop.nodes)) n
-    ∙ with_one_more (parse_expr c.args.levels) _ (map plain_lexpr c.loop.es.items) (plain_lexpr c.in-Some.e) c.loop.nodes c.expression.new.nodes
-    (given_some _ plain_lexpr c.in_ok-e.field-0 c.in-Some.e c.expression.new.nodes c.in-Some.is c.in_ok-e.ensures)
-    ∙ ap (λ xs. with_read xs (many (parse_expr c.args.levels) (c.args.count - (c.loop.counter + 1)) c.expression.new.nodes))
-    (sym (map-append plain_lexpr c.loop.es.items (c.in-Some.e ∷ [])) ∙ ap (λ l. map plain_lexpr l.items) (sym c.in_ok-push-in-Some.ensures.ok))
+    one_so_far (parse_expr c.args.levels) plain_lexpr c.args.count c.args.nodes.now c.loop.counter c.loop.es.items c.loop.nodes c.loop.invariant c.loop-test.true c.in-Some.e c.expression.new.nodes _
+    (given_some _ plain_lexpr c.in_ok-e.field-0 c.in-Some.e c.expression.new.nodes c.in-Some.is c.in_ok-e.ensures) (ap (λ l. l.items) c.in_ok-push-in-Some.ensures.ok)
 
 pub expressions-returns : goal.expressions-returns
-expressions-returns t c =
-    let n : c.args.count - c.loop.counter ≡ 0 = omega (arith, c.loop-test.false) in
-    c.loop.invariant
-    ∙ ap (λ k. with_read (map plain_lexpr c.loop.es.items) (many (parse_expr c.args.levels) k c.loop.nodes)) n
-    ∙ with_all (parse_expr c.args.levels) (map plain_lexpr c.loop.es.items) c.loop.nodes
+expressions-returns t c = all_read (parse_expr c.args.levels) plain_lexpr c.args.count c.args.nodes.now c.loop.counter c.loop.es.items c.loop.nodes c.loop.invariant c.loop-test.false

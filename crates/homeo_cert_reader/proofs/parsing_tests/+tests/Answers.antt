@@ -1,12 +1,11 @@
 -- Each kind of test, and one more of them.
-use Rattle.std.proofs.Common.{rules, ◌≡◌, suc, map, IfOk, Some, option_map, ◌+◌, ◌-◌, [], ◌∷◌, sym, ap, ap₂, ◌∙◌, subst, arith, refl}
-use Rattle.std.proofs.lemmas.List.{map-append}
+use Rattle.std.proofs.Common.{rules, IfOk, Some, option_map, sym, ap, ◌∙◌, subst, arith, refl}
 use Rattle.homeo_syntax.specs.Low.{Not}
 use Rattle.homeo_syntax.specs.LowView.{plain_ltest, low_tests}
 use Rattle.homeo_syntax.proofs.LowViews.{low_phrase_views}
 use Rattle.homeo_certificate.specs.Key.{definitions}
-use Rattle.homeo_certificate.specs.Parse.{seen, many, parse_test, Gives}
-use Rattle.homeo_cert_reader.proofs.ParseSteps.{without_nodes, without_levels, first_of, other_test, with_read, with_none, with_one_more, with_failed, with_all, given_some, given_none}
+use Rattle.homeo_certificate.specs.Parse.{seen, parse_test, Gives}
+use Rattle.homeo_cert_reader.proofs.ParseSteps.{without_nodes, without_levels, first_of, other_test, none_so_far, one_so_far, one_fails, all_read, given_some, given_none}
 use Rattle.homeo_cert_reader.proofs.parsing_tests.+tests.Goals as goal
 
 pub test-returns-then-levels-eq0 : goal.test-returns-then-levels-eq0
@@ -44,34 +43,20 @@ test-returns-in_default-node t c =
     other_test c.args.levels c.in-Some.node c.args.nodes.now c.next.new.self c.in-Some.ensures d.not-True d.not-Not d.not-Comparison
 
 pub tests-loop-init : goal.tests-loop-init
-tests-loop-init t c =
-    let n : c.args.count ≡ c.args.count - 0 = omega arith in
-    sym (with_none (many (parse_test c.args.levels) c.args.count c.args.nodes.now))
-    ∙ ap₂ (λ xs k. with_read (map plain_ltest xs) (many (parse_test c.args.levels) k c.args.nodes.now)) (sym (ap (λ l. l.items) c.in_ok-tests.ensures)) n
+tests-loop-init t c = none_so_far (parse_test c.args.levels) plain_ltest c.args.count c.args.nodes.now _ (ap (λ l. l.items) c.in_ok-tests.ensures)
 
 pub tests-returns-in-None : goal.tests-returns-in-None
 tests-returns-in-None t c =
-    let n : c.args.count - c.loop.counter ≡ suc (c.args.count - (c.loop.counter + 1)) = omega (arith, c.loop-test.true) in
-    c.loop.invariant
-    ∙ ap (λ k. with_read (map plain_ltest c.loop.tests.items) (many (parse_test c.args.levels) k c.loop.nodes)) n
-    ∙ with_failed (parse_test c.args.levels) _ _ c.loop.nodes (given_none _ plain_ltest c.in_ok-t.field-0 c.test.new.nodes c.in-None.is c.in_ok-t.ensures)
+    one_fails (parse_test c.args.levels) plain_ltest c.args.count c.args.nodes.now c.loop.counter c.loop.tests.items c.loop.nodes c.loop.invariant c.loop-test.true
+    (given_none _ plain_ltest c.in_ok-t.field-0 c.test.new.nodes c.in-None.is c.in_ok-t.ensures)
 
 pub tests-loop-preserved : goal.tests-loop-preserved
 tests-loop-preserved t c =
-    let n : c.args.count - c.loop.counter ≡ suc (c.args.count - (c.loop.counter + 1)) = omega (arith, c.loop-test.true) in
-    c.loop.invariant
-    ∙ ap (λ k. with_read (map plain_ltest c.loop.tests.items) (many (parse_test c.args.levels) k c.loop.nodes)) n
-    ∙ with_one_more (parse_test c.args.levels) _ (map plain_ltest c.loop.tests.items) (plain_ltest c.in-Some.t) c.loop.nodes c.test.new.nodes
-    (given_some _ plain_ltest c.in_ok-t.field-0 c.in-Some.t c.test.new.nodes c.in-Some.is c.in_ok-t.ensures)
-    ∙ ap (λ xs. with_read xs (many (parse_test c.args.levels) (c.args.count - (c.loop.counter + 1)) c.test.new.nodes))
-    (sym (map-append plain_ltest c.loop.tests.items (c.in-Some.t ∷ [])) ∙ ap (λ l. map plain_ltest l.items) (sym c.in_ok-push-in-Some.ensures.ok))
+    one_so_far (parse_test c.args.levels) plain_ltest c.args.count c.args.nodes.now c.loop.counter c.loop.tests.items c.loop.nodes c.loop.invariant c.loop-test.true c.in-Some.t c.test.new.nodes _
+    (given_some _ plain_ltest c.in_ok-t.field-0 c.in-Some.t c.test.new.nodes c.in-Some.is c.in_ok-t.ensures) (ap (λ l. l.items) c.in_ok-push-in-Some.ensures.ok)
 
 pub tests-returns : goal.tests-returns
-tests-returns t c =
-    let n : c.args.count - c.loop.counter ≡ 0 = omega (arith, c.loop-test.false) in
-    c.loop.invariant
-    ∙ ap (λ k. with_read (map plain_ltest c.loop.tests.items) (many (parse_test c.args.levels) k c.loop.nodes)) n
-    ∙ with_all (parse_test c.args.levels) (map plain_ltest c.loop.tests.items) c.loop.nodes
+tests-returns t c = all_read (parse_test c.args.levels) plain_ltest c.args.count c.args.nodes.now c.loop.counter c.loop.tests.items c.loop.nodes c.loop.invariant c.loop-test.false
 
 pub test-returns-in-Comparison : goal.test-returns-in-Comparison
 unfolding definitions
