@@ -73,6 +73,10 @@ pub slot_kept : (s : State) (g : Spot) (o : Option Slot) (v : ℤ) → o ≡ Non
 unfolding definitions
 slot_kept s g o v e = sym (ap (λ o. write_slot s g o v) e)
 
+-- the slot that an index names, found among the slots of the code
+pub at_index : (v w : ℤ) (t : Slots) (all : List Slot) (o : Option Slot) → o ≡ slot_at v (slots_of t) → v ≡ w → slots_of t ≡ all → slot_at w all ≡ o
+at_index v w t all o found index slots = sym (found ∙ (λ j. slot_at (index j) (slots j)))
+
 -- ---- a field of each slot
 pub each_zero : (x : Context) (q : ℕ) (t : Slots) (i : ℕ) (slot : code_slot.Slot) (f : code_spot.Spot) (name count : ℕ) → slots_of t ≡ slots x q → i < t.count → plain_slot slot ≡ slot_of t i → plain_spot f ≡ spot (map declared_range t.fields.now) name → count ≡ length (all_bounds x.schema) → IsZeroPast count (plain_spot f) (slot.used + 1 + f.place)
 unfolding definitions
