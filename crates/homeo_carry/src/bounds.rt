@@ -3,12 +3,12 @@
 ghost use Rattle.std.specs.Prelude.{◌≡◌, ◌∷◌, ◌++◌, pos, true, IsTrue, map, IfOk, OnOk};
 ghost use Rattle.homeo_syntax.specs.SourceView.{plain_workload};
 ghost use Rattle.homeo_meaning.specs.Bounds.{AreIn, IsIn, all_bounds, slot_bounds, bounds_of};
-ghost use Rattle.homeo_meaning.specs.Schema.{nat_of, declared_object, declared_range, schema_of};
+ghost use Rattle.homeo_meaning.specs.Schema.{nat_of, declared_range, schema_of};
 ghost use Rattle.homeo_context.specs.Placed.{HasSlots};
 ghost use Rattle.homeo_carry.specs.CarryView.{plain_bounds};
 
 use homeo_meaning::Accepted;
-use homeo_syntax::{Memory, ObjectDecl, RangeDecl, RelationDecl};
+use homeo_syntax::{Memory, Number, RangeDecl, RelationDecl};
 use std::alloc::Global;
 
 /// The bounds of an object.
@@ -18,23 +18,13 @@ pub struct Bounds {
     hi: i64,
 }
 
-#[tactic(auto, unfolding(homeo_meaning::specs::Key::definitions))]
-fn of_object(object: &ObjectDecl) -> Bounds
-    ensures { plain_bounds result ≡ bounds_of (declared_object object.now) }
+/// The bounds from one number to another.
+fn between(lo: &Number, hi: &Number) -> Bounds
+    ensures { plain_bounds result ≡ record { lo = lo.now.value; hi = hi.now.value } }
 {
     Bounds {
-        lo: object.lo.value,
-        hi: object.hi.value,
-    }
-}
-
-#[tactic(auto, unfolding(homeo_meaning::specs::Key::definitions))]
-fn of_range(range: &RangeDecl) -> Bounds
-    ensures { plain_bounds result ≡ bounds_of (declared_range range.now) }
-{
-    Bounds {
-        lo: range.lo.value,
-        hi: range.hi.value,
+        lo: lo.value,
+        hi: hi.value,
     }
 }
 
@@ -58,7 +48,7 @@ pub fn all_bounds(alloc: Global, w: &Accepted) -> Result<Vec<Bounds>, Memory>
     let workload = w.workload();
     let mut bounds = Vec::new(alloc);
     for object in workload.objects.as_slice() {
-        bounds.push(of_object(object))?;
+        bounds.push(between(&object.lo, &object.hi))?;
     }
     for relation in workload.relations.as_slice() {
         add_relation(relation, &mut bounds)?;
@@ -85,7 +75,7 @@ fn add_slot(fields: &[RangeDecl], bounds: &mut Vec<Bounds>) -> Result<(), Memory
 {
     bounds.push(Bounds { lo: 0, hi: 1 })?;
     for field in fields {
-        bounds.push(of_range(field))?;
+        bounds.push(between(&field.lo, &field.hi))?;
     }
     Ok(())
 }

@@ -1,4 +1,4 @@
-use Rattle.std.proofs.Common.{All, ℤ, List, map, ◌++◌, take, sym, ap, subst, ◌∙◌}
+use Rattle.std.proofs.Common.{All, ℤ, List, map, ◌++◌, take, refl, sym, ap, subst, ◌∙◌}
 use Rattle.std.proofs.lemmas.List.{append-nil, take_all}
 use Rattle.std.proofs.lemmas.Simd.{map-map}
 use Rattle.homeo_lemmas.proofs.Lists.{map_take_more}
@@ -7,7 +7,7 @@ use Rattle.homeo_syntax.specs.SourceView.{plain_relation, plain_workload}
 use Rattle.homeo_meaning.specs.Key.{definitions}
 use Rattle.homeo_meaning.specs.Schema.{declared_relation, schema_of}
 use Rattle.homeo_meaning.specs.Bounds.{IsWithin}
-use Rattle.homeo_meaning.specs.Initial.{relation_starts}
+use Rattle.homeo_meaning.specs.Initial.{slot_starts, relation_starts}
 use Rattle.homeo_context.specs.Placed.{HasSlots}
 use Rattle.homeo_context.proofs.Placing.{have_slots}
 use Rattle.homeo_meaning.proofs.Sound.{sound}
@@ -33,7 +33,7 @@ unfolding definitions syntax_definitions
 loop-relation-preserved c =
     let before : List ℤ = map (λ d. d.start.value) c.args.w.now.objects.items in
     let xs = c.as_slice-relation-items.result.now in
-    relation_next before c.loop-relation.database.items c.start_relation.new.database.items (map (λ q. declared_relation (plain_relation q)) (take c.loop-relation.relation-index xs)) (declared_relation (plain_relation c.relation-item.result)) c.loop-relation.invariant c.in_ok-start_relation.ensures
+    relation_next slot_starts relation_starts refl (λ r rs. refl) before c.loop-relation.database.items c.start_relation.new.database.items (map (λ q. declared_relation (plain_relation q)) (take c.loop-relation.relation-index xs)) (declared_relation (plain_relation c.relation-item.result)) c.loop-relation.invariant c.in_ok-start_relation.ensures
     ∙ ap (λ l. before ++ relation_starts l) (sym (map_take_more (λ q. declared_relation (plain_relation q)) xs c.loop-relation.relation-index c.relation-item.result c.loop-relation-test.true c.relation-item.is))
 
 pub returns-clause-value : goal.returns-clause-value
