@@ -25,9 +25,9 @@ pub record IsFold
     (f : Forms) (whole : Exprs → Expr) (start : Linear) (Can : Linear → Exprs → Type 0) (made : Linear → Exprs → Linear) (next : Linear → Linear → Linear) :
     Type 0 where
   start_small : Small start
-  whole_can : (es : Exprs) → CanMake f (whole es) → Can start es
+  pub whole_can : (es : Exprs) → CanMake f (whole es) → Can start es
   can_whole : (es : Exprs) → Can start es → CanMake f (whole es)
-  whole_is : (es : Exprs) → form f (whole es) ≡ made start es
+  pub whole_is : (es : Exprs) → form f (whole es) ≡ made start es
   so_far : (a : Linear) (es : Exprs) → Can a es → Small a
   part : (a : Linear) (e : Expr) (es : Exprs) → Can a (MoreExpr e es) → CanMake f e
   rest : (a : Linear) (e : Expr) (es : Exprs) → Can a (MoreExpr e es) → Can (next a (form f e)) es
@@ -36,47 +36,39 @@ pub record IsFold
   made_more : (a : Linear) (e : Expr) (es : Exprs) → made a (MoreExpr e es) ≡ made (next a (form f e)) es
   made_none : (a : Linear) → made a NoExpr ≡ a
 
-sum_so_far : (f : Forms) (a : Linear) (es : Exprs) → CanSum (IsSmall form_limit) f a es → Small a
-unfolding plan_definitions
-sum_so_far f a NoExpr h = h
-sum_so_far f a (MoreExpr e es) h = h.0
+-- a fold whose numbers are small where they are so far, the next part's form can be made, and so on with it
+fold_of :
+    {f : Forms} {whole : Exprs → Expr} {start : Linear} {Can : Linear → Exprs → Type 0} {made : Linear → Exprs → Linear} {next : Linear → Linear → Linear} →
+    Small start → ((es : Exprs) → CanMake f (whole es) ≡ Can start es) → ((es : Exprs) → form f (whole es) ≡ made start es) →
+    ((a : Linear) → Can a NoExpr ≡ Small a) →
+    ((a : Linear) (e : Expr) (es : Exprs) → Can a (MoreExpr e es) ≡ (Small a × CanMake f e × Can (next a (form f e)) es)) →
+    ((a : Linear) → made a NoExpr ≡ a) → ((a : Linear) (e : Expr) (es : Exprs) → made a (MoreExpr e es) ≡ made (next a (form f e)) es) →
+    IsFold f whole start Can made next
+fold_of {f} {whole} {start} {Can} {made} {next} small can whole_is none more made_none made_more = record {
+  start_small = small;
+  whole_can = λ es h. subst (λ X. X) (can es) h;
+  can_whole = λ es h. subst (λ X. X) (sym (can es)) h;
+  whole_is = whole_is;
+  so_far = so_far;
+  part = λ a e es h. (subst (λ X. X) (more a e es) h).1;
+  rest = λ a e es h. (subst (λ X. X) (more a e es) h).2;
+  can_more = λ a e es s c r. subst (λ X. X) (sym (more a e es)) (s, c, r);
+  can_none = λ a s. subst (λ X. X) (sym (none a)) s;
+  made_more = made_more;
+  made_none = made_none;
+}
+  where
+    so_far : (a : Linear) (es : Exprs) → Can a es → Small a
+    so_far a NoExpr h = subst (λ X. X) (none a) h
+    so_far a (MoreExpr e es) h = (subst (λ X. X) (more a e es) h).0
 
 pub sums : (f : Forms) → IsFold f Sum (constant_form (pos 0)) (CanSum (IsSmall form_limit) f) (sum_form f) (λ a b. add_forms b a)
 unfolding plan_definitions meaning_definitions
-sums f = record {
-  start_small = record { constant = omega arith; factors = tt };
-  whole_can = λ es h. h;
-  can_whole = λ es h. h;
-  whole_is = λ es. refl;
-  so_far = sum_so_far f;
-  part = λ a e es h. h.1;
-  rest = λ a e es h. h.2;
-  can_more = λ a e es s c r. (s, c, r);
-  can_none = λ a s. s;
-  made_more = λ a e es. refl;
-  made_none = λ a. refl;
-}
-
-product_so_far : (f : Forms) (a : Linear) (es : Exprs) → CanProduct (IsSmall form_limit) f a es → Small a
-unfolding plan_definitions
-product_so_far f a NoExpr h = h
-product_so_far f a (MoreExpr e es) h = h.0
+sums f = fold_of (record { constant = omega arith; factors = tt }) (λ es. refl) (λ es. refl) (λ a. refl) (λ a e es. refl) (λ a. refl) (λ a e es. refl)
 
 pub products : (f : Forms) → IsFold f Product (constant_form (pos 1)) (CanProduct (IsSmall form_limit) f) (product_form f) multiply_forms
 unfolding plan_definitions meaning_definitions
-products f = record {
-  start_small = record { constant = omega arith; factors = tt };
-  whole_can = λ es h. h;
-  can_whole = λ es h. h;
-  whole_is = λ es. refl;
-  so_far = product_so_far f;
-  part = λ a e es h. h.1;
-  rest = λ a e es h. h.2;
-  can_more = λ a e es s c r. (s, c, r);
-  can_none = λ a s. s;
-  made_more = λ a e es. refl;
-  made_none = λ a. refl;
-}
+products f = fold_of (record { constant = omega arith; factors = tt }) (λ es. refl) (λ es. refl) (λ a. refl) (λ a e es. refl) (λ a. refl) (λ a e es. refl)
 
 module _
     {f : Forms}

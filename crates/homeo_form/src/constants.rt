@@ -31,7 +31,7 @@ pub fn constant(standing: &Standing, e: &LExpr) -> i128
 
 /// The same, which calls itself for the parts. Most comparisons are of what is read, with a number or not, and a number.
 #[cycle(constants)]
-#[tactic(auto, using(homeo_syntax::proofs::Measures::low_expr_parts, homeo_syntax::proofs::LowViews::low_phrase_views))]
+#[tactic(auto, using(homeo_syntax::proofs::Measures::low_expr_parts, homeo_syntax::proofs::LowViews::low_phrase_views, crate::proofs::FormSteps::can_parts))]
 fn constant_by_parts(standing: &Standing, e: &LExpr) -> i128
     requires { CanForm (IsSmall form_limit) (forms_of standing.now) (plain_lexpr e.now) }
     ensures { result ≡ (form (forms_of standing.now) (plain_lexpr e.now)).constant }

@@ -24,7 +24,7 @@ use std::alloc::Global;
 ///
 /// `Memory` when out of memory.
 #[cycle(expressions)]
-#[tactic(auto, using(homeo_syntax::proofs::Measures::low_expr_parts, homeo_syntax::proofs::LowViews::low_phrase_views))]
+#[tactic(auto, using(homeo_syntax::proofs::Measures::low_expr_parts, homeo_syntax::proofs::LowViews::low_phrase_views, crate::proofs::FormSteps::can_parts))]
 pub fn form(alloc: Global, standing: &Standing, e: &LExpr) -> Result<Form, Memory>
     requires { CanForm (IsSmall form_limit) (forms_of standing.now) (plain_lexpr e.now) }
     ensures { IfOk result (λ f. f ≡ form (forms_of standing.now) (plain_lexpr e.now)) }

@@ -39,21 +39,22 @@ impl<'a> Standing<'a> {
     pub fn new(alloc: Global, base: &'a [i64]) -> Standing<'a>
         ensures { forms_of result ≡ base_forms (values_of base.now) }
     {
-        Standing {
-            base,
-            are_whole: false,
-            objects: ObjectForms::new(alloc),
-            others: HashMap::new(alloc),
-        }
+        Standing::with_none_set(alloc, base, false)
     }
 
     /// What stands as a round begins, where objects are whole.
     pub fn of_objects(alloc: Global, base: &'a [i64]) -> Standing<'a>
         ensures { forms_of result ≡ object_forms (values_of base.now) }
     {
+        Standing::with_none_set(alloc, base, true)
+    }
+
+    fn with_none_set(alloc: Global, base: &'a [i64], are_whole: bool) -> Standing<'a>
+        ensures { forms_of result ≡ first_forms are_whole (values_of base.now) }
+    {
         Standing {
             base,
-            are_whole: true,
+            are_whole,
             objects: ObjectForms::new(alloc),
             others: HashMap::new(alloc),
         }

@@ -14,31 +14,13 @@ use Rattle.homeo_form.specs.inner.Terms.{sum_limit}
 use Rattle.homeo_form.proofs.Adding.{limit_wider}
 use Rattle.homeo_plan.proofs.FormNumbers.{small_form}
 use Rattle.homeo_form.proofs.Folds.{sums, products, step, constant_start, constant_more, constant_end}
-use Rattle.homeo_form.proofs.FormSteps.{one_is_small, sum_can, product_can, neg_can, literal_form, temp_form, read_form, sum_is_form, product_is_form, neg_form}
+use Rattle.homeo_form.proofs.FormSteps.{sum_can, neg_can, literal_form, temp_form, read_form, sum_is_form, product_is_form, neg_form}
 use Rattle.homeo_form.proofs.ConstantSteps.{behind, sum_constant, product_constant}
 use Rattle.homeo_form.proofs.Widths.{kept_is as kept_wide}
 use Rattle.homeo_form.proofs.constants.+constants.Goals as goal
 
 abbrev constant_of : Linear → ℤ
 constant_of a = a.constant
-
-pub constant_by_parts-constant_of_sum-requires : goal.constant_by_parts-constant_of_sum-requires
-constant_by_parts-constant_of_sum-requires t c =
-    (search (rules, the_lemmas), sum_can (forms_of c.args.standing.now) c.args.e.now c.in-Sum.es c.as_slice-es.result.now c.in-Sum.is c.as_slice-es.ensures c.requires)
-
-pub constant_by_parts-constant_of_product-requires : goal.constant_by_parts-constant_of_product-requires
-constant_by_parts-constant_of_product-requires t c = (
-  search (rules, the_lemmas),
-  product_can (forms_of c.args.standing.now) c.args.e.now c.in-Product.es c.as_slice.result.now c.in-Product.is
-      c.as_slice.ensures c.requires,
-)
-
-pub constant_by_parts-constant_by_parts-requires : goal.constant_by_parts-constant_by_parts-requires
-constant_by_parts-constant_by_parts-requires t c =
-    (search (rules, the_lemmas), neg_can (forms_of c.args.standing.now) c.args.e.now c.in-Neg.e c.deref.result.now c.in-Neg.is c.deref.ensures c.requires)
-
-pub constant_by_parts-multiplied-requires-clause-left : goal.constant_by_parts-multiplied-requires-clause-left
-constant_by_parts-multiplied-requires-clause-left t c = one_is_small
 
 pub constant_by_parts-multiplied-requires-clause-right : goal.constant_by_parts-multiplied-requires-clause-right
 constant_by_parts-multiplied-requires-clause-right t c =

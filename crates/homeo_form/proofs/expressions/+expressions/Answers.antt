@@ -11,29 +11,11 @@ use Rattle.homeo_plan.specs.Limit.{form_limit}
 use Rattle.homeo_split.specs.Places.{plain_place}
 use Rattle.homeo_form.specs.Standing.{forms_of}
 use Rattle.homeo_form.proofs.Folds.{sums, products, step, step_next, stop}
-use Rattle.homeo_form.proofs.FormSteps.{one_is_small, sum_can, product_can, neg_can, neg_small, literal_form, temp_form, read_form, sum_is_form, product_is_form, neg_form}
+use Rattle.homeo_form.proofs.FormSteps.{sum_can, neg_small, literal_form, temp_form, read_form, sum_is_form, product_is_form, neg_form}
 use Rattle.homeo_form.proofs.ItemForms.{item_read, item_negated, negated_small, item_number, number_small}
 use Rattle.homeo_form.proofs.Widths.{kept_is as kept_wide}
 use Rattle.homeo_form.proofs.expressions.+expressions.Goals as goal
 use Rattle.homeo_form.proofs.expressions.+expressions.Goals.{sum-in-Read+in_ok-total-in-Read, sum-in-Negated+in_ok-total-in-Negated, sum-in-Number, sum-in-Other+in_ok-part-in-Other+in_ok-total-in-Other}
-
-pub form-sum-requires : goal.form-sum-requires
-form-sum-requires t c =
-    (search (rules, the_lemmas), sum_can (forms_of c.args.standing.now) c.args.e.now c.in-Sum.es c.as_slice-es.result.now c.in-Sum.is c.as_slice-es.ensures c.requires)
-
-pub form-product-requires : goal.form-product-requires
-form-product-requires t c = (
-  search (rules, the_lemmas),
-  product_can (forms_of c.args.standing.now) c.args.e.now c.in-Product.es c.as_slice.result.now c.in-Product.is
-      c.as_slice.ensures c.requires,
-)
-
-pub form-form-requires : goal.form-form-requires
-form-form-requires t c =
-    (search (rules, the_lemmas), neg_can (forms_of c.args.standing.now) c.args.e.now c.in-Neg.e c.deref.result.now c.in-Neg.is c.deref.ensures c.requires)
-
-pub form-times-requires-clause-factor : goal.form-times-requires-clause-factor
-form-times-requires-clause-factor t c = one_is_small
 
 pub form-times-requires-clause-small : goal.form-times-requires-clause-small
 form-times-requires-clause-small t c =
