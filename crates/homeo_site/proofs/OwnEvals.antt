@@ -191,6 +191,16 @@ module _
           (λ l. (n : ℕ) → let v = (exec f (whole (own_values l x))).state (BaseAt n) in FitsSigned w64 (v -ℤ values_of l n) → values_of new n ≡ v -ℤ values_of l n) same left))
 
 -- ---- a call of a site's clients, by the policy
+-- its command runs on base plus own deltas, and what it leaves is what the call's local step gives
+pub record StepRuns (w : s.Workload) (x : SiteState) (call : CallId) (f : Command) (bs : List ℤ) : Type 0 where
+  pub places : has_places (own_shape (length x.deltas)) f ≡ true
+  pub sums : (n : ℕ) → FitsSigned w64 (own_values bs x.deltas n)
+  pub small : can_exec run_limit f (whole (own_values bs x.deltas)) ≡ true
+  pub prints : (ps : List ℤ) → ps ≡ (exec f (whole (own_values bs x.deltas))).prints → ps ≡ step_prints w x call
+  pub deltas : (new : List ℤ) → length new ≡ length x.deltas →
+      ((n : ℕ) → let v = (exec f (whole (own_values bs x.deltas))).state (BaseAt n) in FitsSigned w64 (v -ℤ values_of bs n) → values_of new n ≡ v -ℤ values_of bs n) →
+      new ≡ step_deltas w x call
+
 module _
     (w : s.Workload) (x : SiteState) (accepted : IsAccepted w) (h : IsReady w x) (call : CallId) (at : IsCallAt w x.number call) (f : Command) (bs : List ℤ)
     (is : f ≡ (planned_at w call).command) (same : bs ≡ x.base)
@@ -203,27 +213,22 @@ module _
     ready =
         record { site = h.site; within = h.within; count = h.count; fits = policy_fits w x.base accepted; meets = h.meets; all = h.all }
 
-    pub step_places : has_places (own_shape (length x.deltas)) f ≡ true
-    step_places = run_places w x.base (policy w x.base) x.number x.deltas accepted ready call at.exists here f bs is same
-
-    pub step_sums : (n : ℕ) → FitsSigned w64 (own_values bs x.deltas n)
-    step_sums = run_sums w x.base (policy w x.base) x.number x.deltas accepted ready call at.exists here f bs is same
-
-    pub step_small : can_exec run_limit f (whole (own_values bs x.deltas)) ≡ true
-    step_small = run_small w x.base (policy w x.base) x.number x.deltas accepted ready call at.exists here f bs is same
-
-    pub prints_left : (ps : List ℤ) → ps ≡ (exec f (whole (own_values bs x.deltas))).prints → ps ≡ step_prints w x call
+    list_left :
+        (new : List ℤ) → length new ≡ length x.deltas → ((n : ℕ) → values_of new n ≡ step_values w x call n) → new ≡ step_deltas w x call
     unfolding definitions history_definitions
-    prints_left = run_prints w x.base (policy w x.base) x.number x.deltas accepted ready call at.exists here f bs is same
+    list_left new count left = list_is x.base new (step_values w x call) (count ∙ h.count) left
 
-    pub deltas_left :
-        (new : List ℤ) → length new ≡ length x.deltas →
-        ((n : ℕ) → let v = (exec f (whole (own_values bs x.deltas))).state (BaseAt n) in FitsSigned w64 (v -ℤ values_of bs n) → values_of new n ≡ v -ℤ values_of bs n) →
-        new ≡ step_deltas w x call
+    pub step_runs : StepRuns w x call f bs
     unfolding definitions history_definitions
-    deltas_left new count left =
-        list_is x.base new (step_values w x call) (count ∙ h.count)
-        (run_deltas w x.base (policy w x.base) x.number x.deltas accepted ready call at.exists here f bs is same new left)
+    step_runs =
+        let config = policy w x.base in
+        record {
+          places = run_places w x.base config x.number x.deltas accepted ready call at.exists here f bs is same;
+          sums = run_sums w x.base config x.number x.deltas accepted ready call at.exists here f bs is same;
+          small = run_small w x.base config x.number x.deltas accepted ready call at.exists here f bs is same;
+          prints = run_prints w x.base config x.number x.deltas accepted ready call at.exists here f bs is same;
+          deltas = λ new count left. list_left new count (run_deltas w x.base config x.number x.deltas accepted ready call at.exists here f bs is same new left);
+        }
 
     pub value_left :
         (n : ℕ) → (exec (planned_at w call).command (whole (own_values x.base x.deltas))).state (BaseAt n) ≡ values_of x.base n +ℤ step_values w x call n

@@ -65,12 +65,6 @@ module _
         ap length left ∙ count_like u.state.base (step_values (plain_workload u.work) u.state call)
         ∙ sym (ap (λ (y : SiteValue). length y.state.base) is) ∙ sym site.holds.count ∙ sym (ap length same_deltas)
 
-    pub prints_here : step_prints (plain_workload v.work) (with_deltas v d) call ≡ step_prints (plain_workload u.work) u.state call
-    unfolding definitions
-    prints_here =
-        ap (λ (y : List ℤ). step_prints (plain_workload v.work) (with_deltas v y) call) same_deltas
-        ∙ ap (λ (y : SiteValue). step_prints (plain_workload y.work) y.state call) is
-
     -- from these deltas the call's local step leaves what its room has
     pub after_step :
         IsSite v x s → IsCallAt (plain_workload u.work) u.state.number call → (written : List ℕ) (deltas : List ℤ) →

@@ -35,7 +35,7 @@ use Rattle.homeo_site.specs.inner.Effects.{AreForms, printed, delta_left, delta_
 use Rattle.homeo_site.specs.inner.Ready.{IsReady}
 use Rattle.homeo_site.proofs.CallsOfSites.{call_site}
 use Rattle.homeo_site.proofs.LocalSteps.{no_delta_past, after_within}
-use Rattle.homeo_site.proofs.OwnEvals.{step_small, prints_left, deltas_left, value_left}
+use Rattle.homeo_site.proofs.OwnEvals.{StepRuns, step_runs, value_left}
 use Rattle.homeo_site.proofs.SmallPrints.{prints_fit}
 use Rattle.homeo_site.proofs.Valued.{AreValues, RunsBy, runs_by_forms, unwritten}
 
@@ -88,6 +88,11 @@ pub left_there :
 left_there base deltas bs ds e new same are left =
     subst (λ l. IsLeft bs l e new) are (subst (λ l. IsLeft l deltas e new) same left)
 
+-- the objects written, and the new deltas, after the call's local step
+pub record Leaves (w : s.Workload) (x : SiteState) (call : CallId) (written : List ℕ) (new : List ℤ) : Type 0 where
+  pub deltas : new ≡ step_deltas w x call
+  pub others : (n : ℕ) → has n written ≡ false → values_of new n ≡ values_of x.deltas n
+
 module _
     (w : s.Workload) (x : SiteState) (accepted : IsAccepted w) (h : IsReady w x) (call : CallId) (at : IsCallAt w x.number call) (e : Effect)
     (right : IsEffect (followed (values_of x.base) (planned_at w call).command) e)
@@ -113,11 +118,14 @@ module _
         runs_by_forms (sites_of w) b (template_at w x.base) (policy w x.base) x.number (values_of x.deltas) (policy_fits w x.base accepted) h.meets g
         (planned_covers w x.base g member) (call_site w x.number call at) h.site (planned_whole w g member)
 
+    steps : StepRuns w x call g.command x.base
+    steps = step_runs w x accepted h call at g.command x.base refl refl
+
     pub prints_by : printed x.deltas e.prints.items ≡ step_prints w x call
     prints_by =
         values_are x.deltas e.prints.items r.prints (subst (λ fs. AreValues (values_of x.deltas) fs r.prints) (sym right.prints) run.prints)
-        (prints_fit g.command (whole (own_values x.base x.deltas)) (step_small w x accepted h call at g.command x.base refl refl))
-        ∙ prints_left w x accepted h call at g.command x.base refl refl r.prints refl
+        (prints_fit g.command (whole (own_values x.base x.deltas)) steps.small)
+        ∙ steps.prints r.prints refl
 
     module _
         (new : List ℤ) (count : length new ≡ length x.deltas)
@@ -142,14 +150,18 @@ module _
             no_delta_past w x.base (step_values w x call) h.within (after_within w x accepted h call at) n (omega (arith, le, h.count)) in
             omega (arith, ints, none, value, gone)
 
-        pub deltas_by : new ≡ step_deltas w x call
+        deltas_by : new ≡ step_deltas w x call
         deltas_by =
-            deltas_left w x accepted h call at g.command x.base refl refl new count
+            steps.deltas new count
             (λ n fits. ⊎_elim (λ less. left q.forms right.forms n less ∙ value_there n (has n (objects_of e.writes.items)) refl fits) (λ le. past_all n le)
             (cases_lt n (length x.deltas)))
 
-        pub others_by : (n : ℕ) → has n (objects_of e.writes.items) ≡ false → values_of new n ≡ values_of x.deltas n
+        others_by : (n : ℕ) → has n (objects_of e.writes.items) ≡ false → values_of new n ≡ values_of x.deltas n
         others_by n none =
             ⊎_elim
             (λ less. left q.forms right.forms n less ∙ ap (λ v. cond v (delta_left x.base x.deltas n (q.forms (BaseAt n))) (values_of x.deltas n)) none)
             (λ le. get_or_past new n (pos 0) (omega (arith, le, count)) ∙ sym (get_or_past x.deltas n (pos 0) le)) (cases_lt n (length x.deltas))
+
+        -- where these are the objects that it wrote
+        pub leaves_by : (written : List ℕ) → written ≡ objects_of e.writes.items → Leaves w x call written new
+        leaves_by written is = record { deltas = deltas_by; others = λ n none. others_by n (sym (ap (has n) is) ∙ none) }

@@ -1,5 +1,5 @@
 -- The plan is that of the round, and so is what the site keeps of it.
-use Rattle.std.proofs.Common.{◌≡◌, ℕ, false, All, sym, subst}
+use Rattle.std.proofs.Common.{◌≡◌, ℕ, false, sym, subst}
 use Rattle.homeo_syntax.specs.SourceView.{plain_workload}
 use Rattle.homeo_meaning.specs.Serial.{values_of}
 use Rattle.homeo_outline.specs.ObjectPlan.{template_in, config_in}
@@ -7,27 +7,22 @@ use Rattle.homeo_outline.specs.declared.plan.ObjectPlan.{ObjectPlan}
 use Rattle.homeo_plan.specs.Joined.{Deltas}
 use Rattle.homeo_plan.specs.Treaty.{Treaty, finding}
 use Rattle.homeo_outline.specs.Numbers.{has}
-use Rattle.homeo_site.specs.OwnTreaty.{OwnClause, SumsFit, own_clauses}
 use Rattle.homeo_site.specs.SiteState.{step_finding}
 use Rattle.homeo_site.specs.SiteView.{StartValue, with_deltas}
-use Rattle.homeo_site.specs.inner.Parts.{CanKeep}
 use Rattle.homeo_site.specs.inner.Ready.{IsAfterStep}
 use Rattle.homeo_site.proofs.OwnFailures.{step_fits, step_fails}
-use Rattle.homeo_site.proofs.PartsMade.{can_keep}
+use Rattle.homeo_site.proofs.PartsMade.{keeps_by, fits_by}
 use Rattle.homeo_site.proofs.own_round.OwnRound.failure.Goals as goal
 
 pub first_failure-requires-clause-keeps : goal.first_failure-requires-clause-keeps
 first_failure-requires-clause-keeps c =
     let in' = c.self.inside in
-    subst (λ (p : ObjectPlan). CanKeep p in'.site) (sym c.deref.ensures)
-    (can_keep (plain_workload in'.compiled.value) in'.plan.value in'.site c.self.invariant.round.accepted c.self.invariant.round.site c.self.invariant.round.plan)
+    keeps_by (plain_workload in'.compiled.value) in'.plan.value _ in'.site c.self.invariant.round c.deref.ensures
 
 pub first_failure-requires-clause-fit : goal.first_failure-requires-clause-fit
 first_failure-requires-clause-fit c =
-    let in' = c.self.inside in
-    subst (λ (p : ObjectPlan). All (λ (o : OwnClause). SumsFit o.terms (values_of c.args.deltas.now)) (own_clauses in'.site (template_in p).clauses (config_in p)))
-    (sym c.deref.ensures)
-    (step_fits in'.compiled.value in'.plan.value in'.site in'.round c.self.invariant.round c.args.written.now c.args.deltas.now
+    fits_by (plain_workload c.self.inside.compiled.value) c.self.inside.plan.value _ c.self.inside.site c.self.invariant.round c.deref.ensures _
+    (step_fits c.self.inside.compiled.value c.self.inside.plan.value c.self.inside.site c.self.inside.round c.self.invariant.round c.args.written.now c.args.deltas.now
     (subst (λ (v : StartValue). IsAfterStep (plain_workload v.work) v c.args.written.now c.args.deltas.now) (sym c.self.view_is) c.requires))
 
 pub returns : goal.returns

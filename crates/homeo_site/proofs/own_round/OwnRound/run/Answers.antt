@@ -16,9 +16,10 @@ use Rattle.homeo_plan.specs.Planned.{planned, planned_at}
 use Rattle.homeo_plan.specs.Template.{PlannedCall}
 use Rattle.homeo_outline.specs.declared.plan.ObjectPlan.{ObjectPlan}
 use Rattle.homeo_site.specs.SiteView.{StartValue, with_deltas}
-use Rattle.homeo_site.proofs.OwnEvals.{step_places, step_sums, step_small, prints_left, deltas_left}
+use Rattle.homeo_site.proofs.OwnEvals.{StepRuns, step_runs}
 use Rattle.homeo_site.proofs.CallsOfSites.{planned_there}
 use Rattle.homeo_site.proofs.own_round.OwnRound.run.Goals as goal
+use Rattle.homeo_site.proofs.own_round.OwnRound.run.Goals.{After-as_slice}
 
 both_ok : {A E : Type 0} {P Q R : A → Type 0} → ((x : A) → P x → Q x → R x) → (r : Result A E) → IfOk r P → IfOk r Q → IfOk r R
 both_ok h (Ok x) p q = h x p q
@@ -44,51 +45,30 @@ form_of u v work call n f same is within place form =
     (planned_there (plain_workload u) call n within place))
     ∙ ap (λ (z : Workload). (planned_at (plain_workload z) call).command) is
 
-pub local_step_in-requires-clause-places : goal.local_step_in-requires-clause-places
-local_step_in-requires-clause-places c =
-    step_places (plain_workload c.args.self.now.work) (with_deltas c.args.self.now c.args.deltas.items)
+-- what the form that is run leaves is the call's local step
+runs : (c : After-as_slice) → StepRuns (plain_workload c.args.self.now.work) (with_deltas c.args.self.now c.args.deltas.items) c.args.call (plain_lcommand c.form-form.result.now) c.as_slice.result.now
+runs c =
+    step_runs (plain_workload c.args.self.now.work) (with_deltas c.args.self.now c.args.deltas.items)
     (subst (λ (v : StartValue). IsAccepted (plain_workload v.work)) c.self.view_is c.self.invariant.round.accepted) c.requires.ready c.args.call
     c.requires.call (plain_lcommand c.form-form.result.now) c.as_slice.result.now
     (form_of c.deref.result.now c.deref-2.result.now c.args.self.now.work c.args.call c.place-place.result _ (c.deref.ensures ∙ sym c.deref-2.ensures)
     (c.deref-2.ensures ∙ ap (λ (v : StartValue). v.work) c.self.view_is) c.place-place.ensures.within c.place-place.ensures.place c.form-form.ensures)
     (c.as_slice.ensures ∙ ap (λ (p : ObjectPlan). p.base.items) c.deref-3.ensures ∙ ap (λ (v : StartValue). v.base) c.self.view_is)
+
+pub local_step_in-requires-clause-places : goal.local_step_in-requires-clause-places
+local_step_in-requires-clause-places c = (runs (goal.at.local_step_in-requires-clause-places c).After-as_slice).places
 
 pub local_step_in-requires-clause-sums : goal.local_step_in-requires-clause-sums
-local_step_in-requires-clause-sums c =
-    step_sums (plain_workload c.args.self.now.work) (with_deltas c.args.self.now c.args.deltas.items)
-    (subst (λ (v : StartValue). IsAccepted (plain_workload v.work)) c.self.view_is c.self.invariant.round.accepted) c.requires.ready c.args.call
-    c.requires.call (plain_lcommand c.form-form.result.now) c.as_slice.result.now
-    (form_of c.deref.result.now c.deref-2.result.now c.args.self.now.work c.args.call c.place-place.result _ (c.deref.ensures ∙ sym c.deref-2.ensures)
-    (c.deref-2.ensures ∙ ap (λ (v : StartValue). v.work) c.self.view_is) c.place-place.ensures.within c.place-place.ensures.place c.form-form.ensures)
-    (c.as_slice.ensures ∙ ap (λ (p : ObjectPlan). p.base.items) c.deref-3.ensures ∙ ap (λ (v : StartValue). v.base) c.self.view_is)
+local_step_in-requires-clause-sums c = (runs (goal.at.local_step_in-requires-clause-sums c).After-as_slice).sums
 
 pub local_step_in-requires-clause-small : goal.local_step_in-requires-clause-small
-local_step_in-requires-clause-small c =
-    step_small (plain_workload c.args.self.now.work) (with_deltas c.args.self.now c.args.deltas.items)
-    (subst (λ (v : StartValue). IsAccepted (plain_workload v.work)) c.self.view_is c.self.invariant.round.accepted) c.requires.ready c.args.call
-    c.requires.call (plain_lcommand c.form-form.result.now) c.as_slice.result.now
-    (form_of c.deref.result.now c.deref-2.result.now c.args.self.now.work c.args.call c.place-place.result _ (c.deref.ensures ∙ sym c.deref-2.ensures)
-    (c.deref-2.ensures ∙ ap (λ (v : StartValue). v.work) c.self.view_is) c.place-place.ensures.within c.place-place.ensures.place c.form-form.ensures)
-    (c.as_slice.ensures ∙ ap (λ (p : ObjectPlan). p.base.items) c.deref-3.ensures ∙ ap (λ (v : StartValue). v.base) c.self.view_is)
+local_step_in-requires-clause-small c = (runs (goal.at.local_step_in-requires-clause-small c).After-as_slice).small
 
 pub returns-clause-prints : goal.returns-clause-prints
 returns-clause-prints c =
-    IfOk-weaker c.local_step_in.result _ _ (λ s.
-    prints_left (plain_workload c.args.self.now.work) (with_deltas c.args.self.now c.args.deltas.items)
-    (subst (λ (v : StartValue). IsAccepted (plain_workload v.work)) c.self.view_is c.self.invariant.round.accepted) c.requires.ready c.args.call
-    c.requires.call (plain_lcommand c.form-form.result.now) c.as_slice.result.now
-    (form_of c.deref.result.now c.deref-2.result.now c.args.self.now.work c.args.call c.place-place.result _ (c.deref.ensures ∙ sym c.deref-2.ensures)
-    (c.deref-2.ensures ∙ ap (λ (v : StartValue). v.work) c.self.view_is) c.place-place.ensures.within c.place-place.ensures.place c.form-form.ensures)
-    (c.as_slice.ensures ∙ ap (λ (p : ObjectPlan). p.base.items) c.deref-3.ensures ∙ ap (λ (v : StartValue). v.base) c.self.view_is)
-    s.prints.items) c.local_step_in.ensures.prints
+    IfOk-weaker c.local_step_in.result _ _ (λ s. (runs (goal.at.returns-clause-prints c).After-as_slice).prints s.prints.items) c.local_step_in.ensures.prints
 
 pub returns-clause-deltas : goal.returns-clause-deltas
 returns-clause-deltas c =
-    both_ok (λ s count left.
-    deltas_left (plain_workload c.args.self.now.work) (with_deltas c.args.self.now c.args.deltas.items)
-    (subst (λ (v : StartValue). IsAccepted (plain_workload v.work)) c.self.view_is c.self.invariant.round.accepted) c.requires.ready c.args.call
-    c.requires.call (plain_lcommand c.form-form.result.now) c.as_slice.result.now
-    (form_of c.deref.result.now c.deref-2.result.now c.args.self.now.work c.args.call c.place-place.result _ (c.deref.ensures ∙ sym c.deref-2.ensures)
-    (c.deref-2.ensures ∙ ap (λ (v : StartValue). v.work) c.self.view_is) c.place-place.ensures.within c.place-place.ensures.place c.form-form.ensures)
-    (c.as_slice.ensures ∙ ap (λ (p : ObjectPlan). p.base.items) c.deref-3.ensures ∙ ap (λ (v : StartValue). v.base) c.self.view_is)
-    s.deltas.items count left) c.local_step_in.result c.local_step_in.ensures.count c.local_step_in.ensures.deltas
+    both_ok (λ s. (runs (goal.at.returns-clause-deltas c).After-as_slice).deltas s.deltas.items) c.local_step_in.result
+    c.local_step_in.ensures.count c.local_step_in.ensures.deltas
