@@ -181,7 +181,7 @@ fn close_by(
 fn empty_segments(alloc: Global, w: &Accepted) -> Result<Vec<Segment>, Memory>
     ensures { IfOk result (λ s. map plain_segment s.items ≡ replicate (sites_of (plain_workload w.now)) []) }
 {
-    let mut segments = Vec::new(alloc);
+    let mut segments = Vec::with_capacity(alloc, site_count(w) as usize)?;
     for _ in 0..site_count(w) {
         let entries = List::new(alloc);
         segments.push(Segment { entries })?;
@@ -202,7 +202,7 @@ fn starts_after(
     ensures starts { IfOk result (λ s. AreStarts c.now.value round plan.now.value.base.items s.items) }
     ensures waiting { IfOk result (λ s. map waits s.items ≡ replicate (sites_of (plain_workload c.now.value)) true) }
 {
-    let mut starts = Vec::new(alloc);
+    let mut starts = Vec::with_capacity(alloc, site_count(c.workload()) as usize)?;
     for site in 0..site_count(c.workload()) {
         let start = SiteStart::new(alloc, c, plan, site, round + 1)?;
         starts.push(Some(start))?;

@@ -9,8 +9,8 @@ pub loop-site-init : goal.loop-site-init
 loop-site-init c =
     let w = c.args.c.now.value in
     let base = c.args.plan.now.value.base.items in record {
-      starts = subst (AreStarts w c.args.round base) (sym c.new-starts.ensures.items) (no_starts w c.args.round base);
-      waiting = ap (map waits) c.new-starts.ensures.items;
+      starts = subst (AreStarts w c.args.round base) (sym c.in_ok-starts.ensures.items) (no_starts w c.args.round base);
+      waiting = ap (map waits) c.in_ok-starts.ensures.items;
     }
 
 pub loop-site-preserved : goal.loop-site-preserved
