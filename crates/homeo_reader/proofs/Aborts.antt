@@ -12,7 +12,7 @@ use Rattle.homeo_syntax.specs.Grammar.{call, Means}
 use Rattle.homeo_syntax.specs.Rules as rules
 use Rattle.homeo_syntax.specs.Rules.{Deep, Factor, Test, Command, Tree, Rule, rule, limit, IsWorkload}
 use Rattle.homeo_syntax.specs.WellFormed.{Each, HasCommand, HasCommands}
-use Rattle.homeo_reader.proofs.Keeps.{Sound, Meaning, Fine, Every, sound_nothing, sound_seq, sound_alt, sound_part, sound_as, sound_many, sound_lead, sound_closed}
+use Rattle.homeo_reader.proofs.Keeps.{Sound, Meaning, Fine, Every, sound_seq, sound_alt, sound_part, sound_as, sound_many, sound_lead, sound_block}
 use Rattle.homeo_reader.proofs.Kept.{each_of}
 
 -- nothing is asked of a token
@@ -39,13 +39,7 @@ module _ (M : Meaning) (hyp : (c : Deep) → Sound M F (call c) (Phrase c)) wher
 
   block_has : (v : Version) → Sound M F (rules.block v) (HasCommands v)
   unfolding definitions
-  block_has v =
-      sound_part M F _ (HasCommands v) (sound_lead M F mark.OpenBrace _ (HasCommands v) (sound_closed M F mark.CloseBrace _ (HasCommands v)
-      (sound_alt M F _ _ (HasCommands v)
-      (sound_as M F _ _ _ (HasCommands v)
-      (sound_seq M F _ _ (HasCommand v) (Every (HasCommand v)) (hyp (Command v))
-      (sound_many M F _ (HasCommand v) (sound_lead M F mark.Semicolon _ (HasCommand v) (hyp (Command v))))) (λ p h. each_command v (p.0 ∷ p.1) h))
-      (sound_nothing M F s.NoCommand (HasCommands v) tt))))
+  block_has v = sound_block M F v (HasCommand v) (HasCommands v) (hyp (Command v)) (each_command v) tt
 
   setting_has : (v : Version) → Sound M F rules.setting (λ f. (x : Ident) → HasCommand v (f x))
   unfolding definitions

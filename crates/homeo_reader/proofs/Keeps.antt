@@ -1,10 +1,15 @@
 -- What is true of each value that a grammar spells: predicates, rule by rule.
 use Rattle.std.proofs.Common.{◌≡◌, ℕ, Bool, true, List, [], ◌∷◌, ◌++◌, sym, subst, inl, inr}
 use Rattle.homeo_syntax.specs.declared.token.Mark.{Mark}
+use Rattle.homeo_syntax.specs.declared.token.Mark.TheVariants as mark
 use Rattle.homeo_syntax.specs.declared.token.Kind.{Kind}
 use Rattle.homeo_syntax.specs.declared.token.Token.{Token}
-use Rattle.homeo_syntax.specs.Grammar.{token, nothing, seq, alt, many, part, as_value, takes, Repeats, Spells}
-use Rattle.homeo_syntax.specs.Rules.{Deep, Tree, Rule, fixed, lead, closed}
+use Rattle.homeo_syntax.specs.declared.token.Version.{Version}
+use Rattle.homeo_syntax.specs.Source as s
+use Rattle.homeo_syntax.specs.SourceView.{commands}
+use Rattle.homeo_syntax.specs.Grammar.{call, token, nothing, seq, alt, many, part, as_value, takes, Repeats, Spells}
+use Rattle.homeo_syntax.specs.Rules as rules
+use Rattle.homeo_syntax.specs.Rules.{Deep, Command, Tree, Rule, fixed, lead, closed}
 
 abbrev pub Meaning : Type 1
 Meaning = (c : Deep) → Tree c → List Token → Type 0
@@ -71,3 +76,12 @@ module _ (M : Meaning) (F : Token → Type 0) where
 
   pub sound_closed : {A : Type 0} → (m : Mark) (g : Rule A) (Q : A → Type 0) → Sound M F g Q → Sound M F (closed g m) Q
   sound_closed m g Q p = sound_as (λ p. p.0) (seq g (fixed m)) _ Q (sound_seq g (fixed m) Q _ p (sound_fixed m)) (λ a h. h.0)
+
+  -- a block, by what is true of each of its commands
+  pub sound_block : (v : Version) (P : s.Command → Type 0) (Q : s.Commands → Type 0) → Sound M F (call (Command v)) P →
+      ((all : List s.Command) → Every P all → Q (commands all)) → Q s.NoCommand → Sound M F (rules.block v) Q
+  sound_block v P Q p each none =
+      sound_part _ Q (sound_lead mark.OpenBrace _ Q (sound_closed mark.CloseBrace _ Q
+      (sound_alt _ _ Q
+      (sound_as _ _ _ Q (sound_seq _ _ P (Every P) p (sound_many _ P (sound_lead mark.Semicolon _ P p))) (λ q h. each (q.0 ∷ q.1) h))
+      (sound_nothing s.NoCommand Q none))))

@@ -21,7 +21,7 @@ use Rattle.homeo_syntax.specs.Rules as rules
 use Rattle.homeo_syntax.specs.Rules.{Deep, Factor, Test, Command, Tree, Rule, rule, limit, name_in, value_in, is_natural, is_natural_value, product_of, sum_of}
 use Rattle.homeo_syntax.specs.WellFormed.{Each, EachInExpr, EachInExprs, EachInTest, EachInCond, EachInCommand, EachInCommands, EachInFields, InSchedule, EachIdent, IsBelow, HasWeights}
 use Rattle.homeo_syntax.specs.Versions.{version_number}
-use Rattle.homeo_reader.proofs.Keeps.{Sound, Meaning, Every, sound_token, sound_nothing, sound_seq, sound_alt, sound_part, sound_as, sound_many, sound_lead, sound_closed}
+use Rattle.homeo_reader.proofs.Keeps.{Sound, Meaning, Every, sound_token, sound_nothing, sound_seq, sound_alt, sound_part, sound_as, sound_many, sound_lead, sound_closed, sound_block}
 
 -- a name's place is below this number
 abbrev pub Named : ℕ → Kind → Type 0
@@ -182,13 +182,7 @@ module _ (n : ℕ) (M : Meaning) (hyp : (c : Deep) → Sound M (λ t. Named n t.
 
   block_kept : (v : Version) → Sound M F (rules.block v) (EachInCommands B)
   unfolding definitions
-  block_kept v =
-      sound_part M F _ (EachInCommands B) (sound_lead M F mark.OpenBrace _ (EachInCommands B) (sound_closed M F mark.CloseBrace _ (EachInCommands B)
-      (sound_alt M F _ _ (EachInCommands B)
-      (sound_as M F _ _ _ (EachInCommands B)
-      (sound_seq M F _ _ (EachInCommand B) (Every (EachInCommand B)) (hyp (Command v))
-      (sound_many M F _ (EachInCommand B) (sound_lead M F mark.Semicolon _ (EachInCommand B) (hyp (Command v))))) (λ p h. each_commands B (p.0 ∷ p.1) h))
-      (sound_nothing M F s.NoCommand (EachInCommands B) tt))))
+  block_kept v = sound_block M F v (EachInCommand B) (EachInCommands B) (hyp (Command v)) (each_commands B) tt
 
   -- with each name before it
   setting_kept : Sound M F rules.setting (λ f. (x : Ident) → B x → EachInCommand B (f x))
