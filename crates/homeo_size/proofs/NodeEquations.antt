@@ -6,7 +6,7 @@ use Rattle.homeo_syntax.specs.SourceView.{exprs, tests, commands}
 use Rattle.homeo_syntax.specs.declared.phrase.Ident.{Ident}
 use Rattle.homeo_syntax.specs.declared.phrase.Compare.{Compare}
 use Rattle.homeo_meaning.specs.Context.{Slot, Context, slots, slot_at}
-use Rattle.homeo_size.specs.inner.Counted.{missing, missing_at, literal_in}
+use Rattle.homeo_lform.specs.SourceWrites.{absent_zero, given_field, given}
 use Rattle.homeo_size.specs.inner.Key.{definitions}
 use Rattle.homeo_size.specs.inner.Nodes.{few, index_nodes, visit_nodes, nodes, all_nodes, test_nodes, tests_nodes, write_nodes, values_nodes, command_nodes, commands_nodes}
 
@@ -46,7 +46,7 @@ pub nodes_Neg : (x : Context) (e : s.Expr) → nodes x (s.Neg e) ≡ few (1 + no
 unfolding definitions
 nodes_Neg x e = refl
 
-pub nodes_Field : (x : Context) (q : Ident) (e : s.Expr) (f : Ident) → nodes x (s.Field q e f) ≡ index_nodes (literal_in x e) (slots x q.name) (nodes x e)
+pub nodes_Field : (x : Context) (q : Ident) (e : s.Expr) (f : Ident) → nodes x (s.Field q e f) ≡ index_nodes (given x e) (slots x q.name) (nodes x e)
 unfolding definitions
 nodes_Field x q e f = refl
 
@@ -130,7 +130,7 @@ pub command_Block : (x : Context) (cs : s.Commands) → command_nodes x (s.Block
 unfolding definitions
 command_Block x cs = refl
 
-pub command_SetField : (x : Context) (q : Ident) (i : s.Expr) (f : Ident) (e : s.Expr) → command_nodes x (s.SetField q i f e) ≡ write_nodes (literal_in x i) (slots x q.name) (nodes x i) (nodes x e)
+pub command_SetField : (x : Context) (q : Ident) (i : s.Expr) (f : Ident) (e : s.Expr) → command_nodes x (s.SetField q i f e) ≡ write_nodes (given x i) (slots x q.name) (nodes x i) (nodes x e)
 unfolding definitions
 command_SetField x q i f e = refl
 
@@ -165,51 +165,51 @@ pub ruleset lists = (all_end, all_more, tests_end, tests_more, values_end, value
 pub ruleset steps = (command_Skip, command_Assign, command_Write, command_Print, command_If, command_Block, command_SetField, command_SetRow, command_Foreach, command_Insert, command_Delete, command_Update, command_Abort)
 
 -- ---- literals
-pub literal_Literal : (x : Context) (n : ℤ) → literal_in x (s.Literal n) ≡ Some n
+pub literal_Literal : (x : Context) (n : ℤ) → given x (s.Literal n) ≡ Some n
 unfolding definitions
 literal_Literal x n = refl
 
-pub literal_Name : (x : Context) (t : Ident) → literal_in x (s.Name t) ≡ x.arguments t.name
+pub literal_Name : (x : Context) (t : Ident) → given x (s.Name t) ≡ x.arguments t.name
 unfolding definitions
 literal_Name x t = refl
 
-pub literal_Read : (x : Context) (o : Ident) → literal_in x (s.Read o) ≡ None
+pub literal_Read : (x : Context) (o : Ident) → given x (s.Read o) ≡ None
 unfolding definitions
 literal_Read x o = refl
 
-pub literal_Sum : (x : Context) (es : s.Exprs) → literal_in x (s.Sum es) ≡ None
+pub literal_Sum : (x : Context) (es : s.Exprs) → given x (s.Sum es) ≡ None
 unfolding definitions
 literal_Sum x es = refl
 
-pub literal_Product : (x : Context) (es : s.Exprs) → literal_in x (s.Product es) ≡ None
+pub literal_Product : (x : Context) (es : s.Exprs) → given x (s.Product es) ≡ None
 unfolding definitions
 literal_Product x es = refl
 
-pub literal_Neg : (x : Context) (e : s.Expr) → literal_in x (s.Neg e) ≡ None
+pub literal_Neg : (x : Context) (e : s.Expr) → given x (s.Neg e) ≡ None
 unfolding definitions
 literal_Neg x e = refl
 
-pub literal_Field : (x : Context) (q : Ident) (e : s.Expr) (f : Ident) → literal_in x (s.Field q e f) ≡ missing_at (literal_in x e) (slots x q.name)
+pub literal_Field : (x : Context) (q : Ident) (e : s.Expr) (f : Ident) → given x (s.Field q e f) ≡ given_field (given x e) (slots x q.name)
 unfolding definitions
 literal_Field x q e f = refl
 
-pub literal_Row : (x : Context) (r f : Ident) → literal_in x (s.Row r f) ≡ None
+pub literal_Row : (x : Context) (r f : Ident) → given x (s.Row r f) ≡ None
 unfolding definitions
 literal_Row x r f = refl
 
-pub literal_Count : (x : Context) (r q : Ident) (c : s.Cond) → literal_in x (s.Count r q c) ≡ None
+pub literal_Count : (x : Context) (r q : Ident) (c : s.Cond) → given x (s.Count r q c) ≡ None
 unfolding definitions
 literal_Count x r q c = refl
 
-pub literal_Total : (x : Context) (r f q : Ident) (c : s.Cond) → literal_in x (s.Total r f q c) ≡ None
+pub literal_Total : (x : Context) (r f q : Ident) (c : s.Cond) → given x (s.Total r f q c) ≡ None
 unfolding definitions
 literal_Total x r f q c = refl
 
-pub missing_found : (v : ℤ) (all : List Slot) → missing_at (Some v) all ≡ missing (slot_at v all)
+pub missing_found : (v : ℤ) (all : List Slot) → given_field (Some v) all ≡ absent_zero (slot_at v all)
 unfolding definitions
 missing_found v all = refl
 
-pub missing_none : (all : List Slot) → missing_at None all ≡ None
+pub missing_none : (all : List Slot) → given_field None all ≡ None
 unfolding definitions
 missing_none all = refl
 

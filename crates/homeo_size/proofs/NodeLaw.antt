@@ -13,8 +13,8 @@ use Rattle.homeo_meaning.specs.Context.{Spot, Slot, Context, spot, cell, field_c
 use Rattle.homeo_meaning.specs.Aborts.{holds_abort, hold_abort}
 use Rattle.homeo_meaning.specs.LForm as form
 use Rattle.homeo_meaning.specs.LForm.{Lifted, Made, both, one, in_front, equal, read, fresh, name_of, read_chain, read_slot, literal_of, indexed_by, write_chain, write_at, write_by, visits, counted, Target, all_within, field_writes, fill_chain, lift, lift_all, lift_test, lift_cond, lift_values}
-use Rattle.homeo_lform.proofs.Written.{name_literal}
-use Rattle.homeo_size.specs.inner.Counted.{missing, missing_at, literal_in}
+use Rattle.homeo_lform.specs.SourceWrites.{given_field, given}
+use Rattle.homeo_lform.proofs.Written.{given_literal}
 use Rattle.homeo_size.specs.inner.Key.{definitions}
 use Rattle.homeo_size.specs.inner.Nodes.{few, index_nodes, visit_nodes, nodes, all_nodes, test_nodes, tests_nodes, slot_nodes, write_nodes, values_nodes, command_nodes, commands_nodes}
 
@@ -73,38 +73,19 @@ unfolding meaning_definitions
 of_front L.NoCommand c = omega arith
 of_front (L.MoreCommand b bs) c = let e = of_both bs (one c) in omega (arith, e)
 
+-- the nodes counted so far with those of one more phrase, and what is left
+one_more : (xs ys : L.Commands) (a n m p q : ℕ) → n ≤ of_commands xs + p → m ≤ few (a + n) + (of_commands ys + q) → m ≤ a + (of_commands (both xs ys) + (p + q))
+one_more xs ys a n m p q k l =
+    let g = of_both xs ys in
+    let fewer = few_le (a + n) (a + n) (omega arith) in
+    omega (arith, k, l, g, fewer)
+
 -- a lifting and its phrase
 abbrev pub Has : {A : Type 0} → Lifted A → (A → ℕ) → ℕ → Type 0
 Has x of n = n ≤ of_commands x.before + of x.phrase
 
 from_none : {m n : ℕ} → m ≤ 0 + n → m ≤ n
 from_none h = omega (arith, h)
-
--- ---- literals
-slot_literal : (f : Spot) (o : Option Slot) → literal_of (read_slot f o) ≡ missing o
-unfolding definitions meaning_definitions
-slot_literal f (Some slot) = refl
-slot_literal f None = refl
-
-indexed_literal : (o : Option ℤ) (all : List Slot) (f : Spot) (x : Lifted L.Expr) → literal_of (indexed_by o all f x).phrase ≡ missing_at o all
-unfolding definitions meaning_definitions
-indexed_literal (Some v) all f x = slot_literal f (slot_at v all)
-indexed_literal None all f x = refl
-
-literal_is : (w : Context) (e : Expr) (n : ℕ) → literal_of (lift w e n).phrase ≡ literal_in w e
-unfolding definitions meaning_definitions
-literal_is w (Literal v) n = refl
-literal_is w (Name x) n = name_literal (w.arguments x.name) x.name
-literal_is w (Read x) n = refl
-literal_is w (Sum es) n = refl
-literal_is w (Product es) n = refl
-literal_is w (Neg e) n = refl
-literal_is w (Field q e f) n =
-    indexed_literal (literal_of (lift w e n).phrase) (slots w q.name) (spot (fields w q.name) f.name) (lift w e n)
-    ∙ ap (λ o. missing_at o (slots w q.name)) (literal_is w e n)
-literal_is w (Row r f) n = refl
-literal_is w (Count r q b) n = refl
-literal_is w (Total r f q b) n = refl
 
 -- ---- a field of the slot that an index names
 read_chain_has : (f : Spot) (e : L.Expr) (t : ℕ) (slot : Slot) (more : List Slot) → length (slot ∷ more) + of_expr e ≤ of_command (read_chain f e t (slot ∷ more))
@@ -174,7 +155,7 @@ module _ (x : Context) where
   unfolding meaning_definitions
   bound_same w r slot h = record { slots' = h.slots'; arguments' = h.arguments' }
 
-  literals_same : (w : Context) (h : Same w) (e : Expr) → literal_in x e ≡ literal_in w e
+  literals_same : (w : Context) (h : Same w) (e : Expr) → given x e ≡ given w e
   unfolding definitions
   literals_same w h (Literal v) = refl
   literals_same w h (Name t) = h.arguments' t.name
@@ -182,13 +163,13 @@ module _ (x : Context) where
   literals_same w h (Sum es) = refl
   literals_same w h (Product es) = refl
   literals_same w h (Neg e) = refl
-  literals_same w h (Field q e f) = ap₂ missing_at (literals_same w h e) (h.slots' q.name)
+  literals_same w h (Field q e f) = ap₂ given_field (literals_same w h e) (h.slots' q.name)
   literals_same w h (Row r f) = refl
   literals_same w h (Count r q c) = refl
   literals_same w h (Total r f q c) = refl
 
-  literal_same : (w : Context) (h : Same w) (e : Expr) (n : ℕ) → literal_of (lift w e n).phrase ≡ literal_in x e
-  literal_same w h e n = literal_is w e n ∙ sym (literals_same w h e)
+  literal_same : (w : Context) (h : Same w) (e : Expr) (n : ℕ) → literal_of (lift w e n).phrase ≡ given x e
+  literal_same w h e n = given_literal w e n ∙ sym (literals_same w h e)
 
   name_has : (o : Option ℤ) (t : ℕ) → 1 ≤ of_expr (name_of o t)
   unfolding meaning_definitions
@@ -214,8 +195,8 @@ module _ (x : Context) where
     expr_has w h (Product es) n = let k = exprs_have w h es n 0 in few_le (1 + all_nodes x es 0) _ (omega (arith, k))
     expr_has w h (Neg e) n = let k = expr_has w h e n in few_le (1 + nodes x e) _ (omega (arith, k))
     expr_has w h (Field q e f) n =
-        subst (λ l. Has (indexed_by (literal_of (lift w e n).phrase) (slots w q.name) (spot (fields w q.name) f.name) (lift w e n)) of_expr (index_nodes (literal_in x e) l (nodes x e))) (sym (h.slots' q.name))
-        (indexed_same (literal_of (lift w e n).phrase) (literal_in x e) (literal_same w h e n) (slots w q.name) (spot (fields w q.name) f.name) (lift w e n) (nodes x e) (expr_has w h e n))
+        subst (λ l. Has (indexed_by (literal_of (lift w e n).phrase) (slots w q.name) (spot (fields w q.name) f.name) (lift w e n)) of_expr (index_nodes (given x e) l (nodes x e))) (sym (h.slots' q.name))
+        (indexed_same (literal_of (lift w e n).phrase) (given x e) (literal_same w h e n) (slots w q.name) (spot (fields w q.name) f.name) (lift w e n) (nodes x e) (expr_has w h e n))
     expr_has w h (Row r f) n = omega arith
     expr_has w h (Count r q c) n =
         subst (λ l. Has (lift w (Count r q c) n) of_expr (visit_nodes l (tests_nodes x c 0))) (sym (h.slots' q.name))
@@ -227,11 +208,7 @@ module _ (x : Context) where
     exprs_have : (w : Context) (h : Same w) (es : Exprs) (n a : ℕ) → all_nodes x es a ≤ a + (of_commands (lift_all w es n).before + of_exprs (lift_all w es n).phrase)
     exprs_have w h NoExpr n a = omega arith
     exprs_have w h (MoreExpr e es) n a =
-        let k = expr_has w h e n in
-        let l = exprs_have w h es (lift w e n).next (few (a + nodes x e)) in
-        let g = of_both (lift w e n).before (lift_all w es (lift w e n).next).before in
-        let fewer = few_le (a + nodes x e) (a + nodes x e) (omega arith) in
-        omega (arith, k, l, g, fewer)
+        one_more (lift w e n).before (lift_all w es (lift w e n).next).before a (nodes x e) _ _ _ (expr_has w h e n) (exprs_have w h es (lift w e n).next (few (a + nodes x e)))
 
     test_has : (w : Context) (h : Same w) (t : Test) (n : ℕ) → Has (lift_test w t n) of_test (test_nodes x t)
     test_has w h True n = omega arith
@@ -245,11 +222,7 @@ module _ (x : Context) where
     tests_have : (w : Context) (h : Same w) (c : Cond) (n a : ℕ) → tests_nodes x c a ≤ a + (of_commands (lift_cond w c n).before + of_tests (lift_cond w c n).phrase)
     tests_have w h NoTest n a = omega arith
     tests_have w h (MoreTest t c) n a =
-        let k = test_has w h t n in
-        let l = tests_have w h c (lift_test w t n).next (few (a + test_nodes x t)) in
-        let g = of_both (lift_test w t n).before (lift_cond w c (lift_test w t n).next).before in
-        let fewer = few_le (a + test_nodes x t) (a + test_nodes x t) (omega arith) in
-        omega (arith, k, l, g, fewer)
+        one_more (lift_test w t n).before (lift_cond w c (lift_test w t n).next).before a (test_nodes x t) _ _ _ (test_has w h t n) (tests_have w h c (lift_test w t n).next (few (a + test_nodes x t)))
 
   -- ---- commands
   placed_has : {A : Type 0} (of : A → ℕ) (f : A → L.Command) → ((a : A) → 1 + of a ≤ of_command (f a)) → (y : Lifted A) (n : ℕ) → Has y of n → few (1 + n) ≤ of_command (form.placed y f).command
@@ -373,8 +346,8 @@ module _ (x : Context) where
         few_le (tests_nodes x b 0 + few (command_nodes x c + command_nodes x d)) _ (omega (arith, t, k, l, front, fewer))
     command_has w h (Block cs) n = commands_have w h false cs n 1
     command_has w h (SetField q i f e) n =
-        subst (λ l. write_nodes (literal_in x i) l (nodes x i) (nodes x e) ≤ of_command (form.form w (SetField q i f e) n).command) (sym (h.slots' q.name))
-        (by_same (literal_of (lift w i n).phrase) (literal_in x i) (literal_same w h i n) (slots w q.name) (spot (fields w q.name) f.name) (lift w i n) (lift w e) (nodes x i) (nodes x e) (expr_has w h i n) (λ k. expr_has w h e k))
+        subst (λ l. write_nodes (given x i) l (nodes x i) (nodes x e) ≤ of_command (form.form w (SetField q i f e) n).command) (sym (h.slots' q.name))
+        (by_same (literal_of (lift w i n).phrase) (given x i) (literal_same w h i n) (slots w q.name) (spot (fields w q.name) f.name) (lift w i n) (lift w e) (nodes x i) (nodes x e) (expr_has w h i n) (λ k. expr_has w h e k))
     command_has w h (SetRow r f e) n = placed_has of_expr (form.guarded (spot (w.rows r.name).fields f.name) (field_cell (w.rows r.name) f.name)) (guarded_has (spot (w.rows r.name).fields f.name) (field_cell (w.rows r.name) f.name)) (lift w e n) (nodes x e) (expr_has w h e n)
     command_has w h (Foreach r q c cs) n =
         loop_has w h r.name q.name c (hold_abort cs) (λ slot m. form.as_one (form.forms (bind w r.name slot) false cs m)) (commands_nodes x cs 0) n (few (tests_nodes x c 0 + commands_nodes x cs 0)) (few_le (tests_nodes x c 0 + commands_nodes x cs 0) _ (omega arith))

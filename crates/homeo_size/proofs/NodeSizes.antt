@@ -1,5 +1,6 @@
 -- An L form has no more nodes than its size tells.
 use Rattle.std.proofs.Common.{ℕ, ◌≤◌, Bool, true, false, cond, arith}
+use Rattle.std.proofs.Math.Nat.{add-le-add}
 use Rattle.std.proofs.lemmas.Int.{clamps}
 use Rattle.homeo_syntax.specs.Low.{Expr, Exprs, Literal, OfTemp, Read, Sum, Product, Neg, NoExpr, MoreExpr, Test, Cond, True, Not, Comparison, NoTest, MoreTest, Command, Commands, Skip, Assign, Write, Print, Seq, If, NoCommand, MoreCommand}
 use Rattle.homeo_meaning.specs.Key.{definitions as meaning_definitions}
@@ -24,10 +25,7 @@ mutual
 
   exprs_size : (es : Exprs) (v : Location → Extent) → Least v → of_exprs es ≤ (extent_all es v).size
   exprs_size NoExpr v h = omega arith
-  exprs_size (MoreExpr e es) v h =
-      let k = expr_size e v h in
-      let l = exprs_size es v h in
-      omega (arith, k, l)
+  exprs_size (MoreExpr e es) v h = add-le-add (expr_size e v h) (exprs_size es v h)
 
 some_expr : (e : Expr) → 1 ≤ of_expr e
 some_expr (Literal n) = omega arith
@@ -50,10 +48,7 @@ mutual
 
   tests_size : (c : Cond) (v : Location → Extent) → Least v → of_tests c ≤ (tests_extent c v).size
   tests_size NoTest v h = omega arith
-  tests_size (MoreTest t c) v h =
-      let k = test_size t v h in
-      let l = tests_size c v h in
-      omega (arith, k, l)
+  tests_size (MoreTest t c) v h = add-le-add (test_size t v h) (tests_size c v h)
 
 put_least : (v : Location → Extent) (p : Location) (e : Extent) → Least v → 1 ≤ e.size → Least (put v p e)
 unfolding meaning_definitions

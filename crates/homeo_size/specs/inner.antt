@@ -1,4 +1,3 @@
-pub mod Counted
 pub mod Key
 pub mod Laid
 pub mod Measuring

@@ -75,16 +75,22 @@ pub(crate) fn beside(a: Extent, b: Extent) -> Extent
     }
 }
 
+/// The extent with another weight, told up to its cap.
+fn weighing(e: Extent, weight: u64) -> Extent
+    ensures { result ≡ record { size = e.size; depth = e.depth; weight = weight_cap weight } }
+{
+    Extent {
+        weight: weight_capped(weight),
+        ..e
+    }
+}
+
 /// The extent of terms, with one more.
 #[tactic(auto, unfolding(crate::specs::inner::Key::definitions))]
 pub(crate) fn plus(a: Extent, b: Extent) -> Extent
     ensures { result ≡ plus a b }
 {
-    Extent {
-        size: capped(a.size.saturating_add(b.size)),
-        depth: a.depth.max(b.depth),
-        weight: weight_capped(a.weight.saturating_add(b.weight)),
-    }
+    weighing(beside(a, b), a.weight.saturating_add(b.weight))
 }
 
 /// The extent of factors, with one more.
@@ -92,11 +98,7 @@ pub(crate) fn plus(a: Extent, b: Extent) -> Extent
 pub(crate) fn times(a: Extent, b: Extent) -> Extent
     ensures { result ≡ times a b }
 {
-    Extent {
-        size: capped(a.size.saturating_add(b.size)),
-        depth: a.depth.max(b.depth),
-        weight: weight_capped(a.weight.saturating_mul(b.weight)),
-    }
+    weighing(beside(a, b), a.weight.saturating_mul(b.weight))
 }
 
 /// The extent of a phrase whose parts have this extent.
@@ -117,9 +119,8 @@ pub(crate) fn summed(terms: Extent) -> Extent
     ensures { result ≡ summed terms }
 {
     Extent {
-        size: capped(terms.size.saturating_add(1)),
-        depth: capped(terms.depth.saturating_add(1)),
         weight: terms.weight.max(1),
+        ..around(terms)
     }
 }
 

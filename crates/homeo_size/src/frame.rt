@@ -4,7 +4,7 @@ ghost use Rattle.std.specs.Prelude.{◌≡◌, map, option_map};
 ghost use Rattle.homeo_syntax.specs.SourceView.{plain_expr};
 ghost use Rattle.homeo_meaning.specs.Context.{context, slots};
 ghost use Rattle.homeo_context.specs.Slots.{plain_slot, slots_of, IsCounted};
-ghost use Rattle.homeo_size.specs.inner.Counted.{missing, literal_in};
+ghost use Rattle.homeo_lform.specs.SourceWrites.{absent_zero, given};
 ghost use Rattle.homeo_size.specs.inner.Tables.{context_of};
 
 use crate::layout::Layout;
@@ -21,7 +21,7 @@ pub(crate) struct Frame<'a> {
 /// The literal that stands for a field of a slot that isn't there.
 #[tactic(auto, unfolding(crate::specs::inner::Key::definitions))]
 fn missing(slot: Option<Slot<'_>>) -> Option<i64>
-    ensures { result ≡ missing (option_map plain_slot slot.entry) }
+    ensures { result ≡ absent_zero (option_map plain_slot slot.entry) }
 {
     match slot {
         Some(_) => None,
@@ -60,7 +60,7 @@ impl<'a> Frame<'a> {
     /// The number that an expression is as a literal.
     #[tactic(auto, using(homeo_syntax::proofs::SourceViews::phrase_views, crate::proofs::NodeEquations::literals))]
     pub(crate) fn literal(&self, e: &Expr) -> Option<i64>
-        ensures { result ≡ literal_in (context_of self.now) (plain_expr e.now) }
+        ensures { result ≡ given (context_of self.now) (plain_expr e.now) }
     {
         match e {
             Expr::Literal(n) => Some(*n),

@@ -2,7 +2,7 @@
 use Rattle.std.specs.Prelude.{ℕ, ◌+◌, ◌*◌, min, List, [], ◌∷◌, length, ℤ, Option, Some, None}
 use Rattle.homeo_syntax.specs.Source.{Expr, Exprs, Literal, Name, Read, Sum, Product, Neg, Field, Row, Count, Total, NoExpr, MoreExpr, Test, Cond, True, Not, Comparison, NoTest, MoreTest, FieldValue, Command, Commands, Skip, Assign, Write, Print, If, Block, SetField, SetRow, Foreach, Insert, Delete, Update, Abort, NoCommand, MoreCommand}
 use Rattle.homeo_meaning.specs.Context.{Slot, Context, slots, slot_at}
-use Rattle.homeo_size.specs.inner.Counted.{literal_in}
+use Rattle.homeo_lform.specs.SourceWrites.{given}
 use Rattle.homeo_size.specs.inner.Key.{definitions}
 
 abbrev pub few : ℕ → ℕ
@@ -28,7 +28,7 @@ abbrev mutual
   nodes x (Sum es) = few (1 + all_nodes x es 0)
   nodes x (Product es) = few (1 + all_nodes x es 0)
   nodes x (Neg e) = few (1 + nodes x e)
-  nodes x (Field q e f) = index_nodes (literal_in x e) (slots x q.name) (nodes x e)
+  nodes x (Field q e f) = index_nodes (given x e) (slots x q.name) (nodes x e)
   nodes x (Row r f) = 1
   nodes x (Count r q c) = visit_nodes (slots x q.name) (tests_nodes x c 0)
   nodes x (Total r f q c) = visit_nodes (slots x q.name) (tests_nodes x c 0)
@@ -75,7 +75,7 @@ abbrev mutual
   command_nodes x (Print e) = few (1 + nodes x e)
   command_nodes x (If b c d) = few (tests_nodes x b 0 + few (command_nodes x c + command_nodes x d))
   command_nodes x (Block cs) = commands_nodes x cs 1
-  command_nodes x (SetField q i f e) = write_nodes (literal_in x i) (slots x q.name) (nodes x i) (nodes x e)
+  command_nodes x (SetField q i f e) = write_nodes (given x i) (slots x q.name) (nodes x i) (nodes x e)
   command_nodes x (SetRow r f e) = few (1 + nodes x e)
   command_nodes x (Foreach r q c cs) = visit_nodes (slots x q.name) (few (tests_nodes x c 0 + commands_nodes x cs 0))
   command_nodes x (Insert q fs t) = values_nodes x fs (few (1 + length (slots x q.name) * few (1 + length fs)))
