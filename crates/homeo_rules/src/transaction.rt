@@ -3,7 +3,6 @@
 ghost use Rattle.std.specs.Prelude.{◌≡◌, IfOk};
 ghost use Rattle.homeo_syntax.specs.SourceView.{plain_transaction};
 ghost use Rattle.homeo_rules.specs.inner.Deciding.{keep_all};
-ghost use Rattle.homeo_meaning.specs.Faults.{of_transaction};
 ghost use Rattle.homeo_rules.specs.inner.Params.{enter_params};
 ghost use Rattle.homeo_rules.specs.inner.Scopes.{scope_in};
 ghost use Rattle.homeo_rules.specs.inner.Within.{IsNamed, AreNamed};
@@ -28,7 +27,7 @@ fn enter_params(ds: &[RangeDecl], scope: &Scope<'_>, k: &mut Checker)
 }
 
 /// The fault that decides, of the transaction's and of one so far.
-pub(crate) fn check_transaction(
+fn check_transaction(
     alloc: Global,
     t: &Transaction,
     scope: &Scope<'_>,
@@ -36,7 +35,7 @@ pub(crate) fn check_transaction(
     best: Option<Fault>,
 ) -> Result<Option<Fault>, Memory>
     requires { IsNamed names (plain_transaction t.now) }
-    ensures { IfOk result (λ b. b ≡ keep_all best (of_transaction (scope_in scope.now) (plain_transaction t.now))) }
+    ensures { IfOk result (λ b. b ≡ keep_all best (transaction_faults_of (scope_in scope.now) t.now)) }
 {
     let best = check_ranges(t.params.as_slice(), best);
     let mut k = Checker::start(alloc, names, best)?;
@@ -58,21 +57,7 @@ pub(crate) fn check_transactions(
 {
     let mut best = best;
     for t in ts {
-        best = check_one(alloc, t, scope, names, best)?;
+        best = check_transaction(alloc, t, scope, names, best)?;
     }
     Ok(best)
-}
-
-#[tactic(auto, unfolding(crate::specs::inner::Key::definitions))]
-fn check_one(
-    alloc: Global,
-    t: &Transaction,
-    scope: &Scope<'_>,
-    names: usize,
-    best: Option<Fault>,
-) -> Result<Option<Fault>, Memory>
-    requires { IsNamed names (plain_transaction t.now) }
-    ensures { IfOk result (λ b. b ≡ keep_all best (transaction_faults_of (scope_in scope.now) t.now)) }
-{
-    check_transaction(alloc, t, scope, names, best)
 }
