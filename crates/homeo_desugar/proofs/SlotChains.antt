@@ -6,9 +6,12 @@ use Rattle.homeo_syntax.specs.Listed.{Listed}
 use Rattle.homeo_syntax.specs.Low as L
 use Rattle.homeo_syntax.specs.declared.low.Temp.TheVariants as temp
 use Rattle.homeo_syntax.specs.declared.low.SplitName.TheVariants as split
-use Rattle.homeo_syntax.specs.declared.low.LCommand.{LCommand}
+use Rattle.homeo_syntax.specs.declared.low.Temp.{Temp}
+use Rattle.homeo_syntax.specs.declared.low.LExpr.{Literal}
+use Rattle.homeo_syntax.specs.declared.low.LCommand.{LCommand, Assign}
 use Rattle.homeo_syntax.specs.declared.workload.RangeDecl.{RangeDecl}
 use Rattle.homeo_syntax.specs.LowView.{low_commands, plain_lcommand}
+use Rattle.homeo_syntax.proofs.LowViews.{low_Assign, low_Literal}
 use Rattle.homeo_meaning.specs.Key.{definitions as meaning_definitions}
 use Rattle.homeo_meaning.specs.Context.{Spot, Slot, cell}
 use Rattle.homeo_meaning.specs.LForm.{Target, both, one, read, fresh, equal, one_test, within, read_chain, write_chain, fill_chain, all_within, field_writes}
@@ -20,6 +23,10 @@ use Rattle.homeo_desugar.specs.declared.making.Target as code
 use Rattle.homeo_context.specs.declared.slots.Slots.{Slots}
 use Rattle.homeo_desugar.proofs.Makings.{both_both, made_push, tests_none, tests_tests}
 use Rattle.homeo_desugar.proofs.SlotLists.{one_more}
+
+-- what a chain ends with where there is no slot
+pub zero_assigned : (t : Temp) → plain_lcommand (Assign t (Literal (pos 0))) ≡ L.Assign t (L.Literal (pos 0))
+zero_assigned t = low_Assign t (Literal (pos 0)) ∙ ap (L.Assign t) (low_Literal (pos 0))
 
 -- ---- one slot more
 pub read_more : (s : Slots) (number : ℕ) (f : Spot) (e : L.Expr) (t : ℕ) (test : L.Cond) (here more chain : L.Command) → 0 < number → number ≤ s.count → chain ≡ L.If test here more → test ≡ one_test (equal e (pos (number - 1))) →

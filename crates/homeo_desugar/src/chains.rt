@@ -33,6 +33,7 @@ fn write(alloc: Global, target: SplitName, value: &LExpr) -> Result<LCommand, Me
 }
 
 /// Puts the field of the slot that an index names into a fresh temporary, and 0 where there is no such slot.
+#[tactic(auto, using(crate::proofs::SlotLists::slot_is_low))]
 pub(crate) fn read_chain(
     alloc: Global,
     index: &LExpr,
@@ -141,6 +142,7 @@ fn fill(alloc: Global, slot: Slot<'_>, targets: &[Target], into: u32) -> Result<
 }
 
 /// Fills the first free slot, and puts 0 into the temporary where there is none.
+#[tactic(auto, using(crate::proofs::SlotLists::slot_is_low))]
 pub(crate) fn fill_chain(
     alloc: Global,
     slots: Slots<'_>,

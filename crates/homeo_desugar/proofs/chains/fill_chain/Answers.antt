@@ -1,31 +1,22 @@
 -- One slot more is put in front of the chain.
 use Rattle.std.proofs.Common.{◌-◌, pos, map, sym, ap, ◌∙◌, subst, arith}
-use Rattle.homeo_syntax.specs.Low as L
 use Rattle.homeo_syntax.specs.LowView.{plain_lcond, plain_lcommand}
 use Rattle.homeo_syntax.specs.declared.low.Temp.TheVariants as temp
-use Rattle.homeo_syntax.proofs.LowViews.{low_Assign, low_Literal}
 use Rattle.homeo_meaning.specs.Key.{definitions as meaning_definitions}
 use Rattle.homeo_meaning.specs.Context.{Slot}
 use Rattle.homeo_meaning.specs.LForm.{read, equal, one_test, fill_chain}
 use Rattle.homeo_desugar.specs.inner.Key.{definitions}
 use Rattle.homeo_desugar.specs.inner.Made.{plain_target, AreWithin, filled}
 use Rattle.homeo_context.proofs.SlotLists.{slot_is, left_none}
-use Rattle.homeo_desugar.proofs.SlotChains.{fill_more}
-use Rattle.homeo_desugar.proofs.SlotLists.{all_after, slot_is_low}
+use Rattle.homeo_desugar.proofs.SlotChains.{zero_assigned, fill_more}
+use Rattle.homeo_desugar.proofs.SlotLists.{all_after}
 use Rattle.homeo_desugar.proofs.chains.fill_chain.Goals as goal
 
 pub loop-number-init : goal.loop-number-init
 unfolding meaning_definitions
 loop-number-init c = record {
   within = omega arith;
-  chain =
-      low_Assign _ _ ∙ ap (L.Assign (temp.Named c.args.into)) (low_Literal (pos 0))
-      ∙ sym (ap (fill_chain (map plain_target c.args.targets.now) c.args.into) (left_none c.args.slots c.args.slots.count (omega arith)));
-}
-
-pub used-requires : goal.used-requires
-used-requires c = record {
-  low = slot_is_low c.args.slots (c.loop-number.number - 1) c.slot-slot.result (omega (arith, c.loop-number.invariant.within)) c.requires.slots c.slot-slot.ensures.number c.slot-slot.ensures.used c.slot-slot.ensures.fields;
+  chain = zero_assigned (temp.Named c.args.into) ∙ sym (ap (fill_chain (map plain_target c.args.targets.now) c.args.into) (left_none c.args.slots c.args.slots.count (omega arith)));
 }
 
 pub fill-requires-clause-within : goal.fill-requires-clause-within

@@ -3,28 +3,21 @@ use Rattle.std.proofs.Common.{◌-◌, pos, sym, ap, ◌∙◌, arith}
 use Rattle.homeo_syntax.specs.Low as L
 use Rattle.homeo_syntax.specs.LowView.{plain_lexpr, plain_lcond, plain_lcommand}
 use Rattle.homeo_syntax.specs.declared.low.Temp.TheVariants as temp
-use Rattle.homeo_syntax.proofs.LowViews.{low_Assign, low_Literal}
+use Rattle.homeo_syntax.proofs.LowViews.{low_Assign}
 use Rattle.homeo_meaning.specs.Key.{definitions as meaning_definitions}
 use Rattle.homeo_meaning.specs.Context.{cell}
 use Rattle.homeo_meaning.specs.LForm.{read, equal, one_test, read_chain}
 use Rattle.homeo_context.specs.Slots.{plain_spot}
 use Rattle.homeo_context.proofs.SlotLists.{slot_is, left_none}
-use Rattle.homeo_desugar.proofs.SlotChains.{read_more}
-use Rattle.homeo_desugar.proofs.SlotLists.{all_after, slot_is_low}
+use Rattle.homeo_desugar.proofs.SlotChains.{zero_assigned, read_more}
+use Rattle.homeo_desugar.proofs.SlotLists.{all_after}
 use Rattle.homeo_desugar.proofs.chains.read_chain.Goals as goal
 
 pub loop-number-init : goal.loop-number-init
 unfolding meaning_definitions
 loop-number-init c = record {
   within = omega arith;
-  chain =
-      low_Assign _ _ ∙ ap (L.Assign (temp.Fresh c.args.target)) (low_Literal (pos 0))
-      ∙ sym (ap (read_chain (plain_spot c.args.field) (plain_lexpr c.args.index.now) c.args.target) (left_none c.args.slots c.args.slots.count (omega arith)));
-}
-
-pub is_slot-requires : goal.is_slot-requires
-is_slot-requires c = record {
-  low = slot_is_low c.args.slots (c.loop-number.number - 1) c.slot-slot.result (omega (arith, c.loop-number.invariant.within)) c.requires.slots c.slot-slot.ensures.number c.slot-slot.ensures.used c.slot-slot.ensures.fields;
+  chain = zero_assigned (temp.Fresh c.args.target) ∙ sym (ap (read_chain (plain_spot c.args.field) (plain_lexpr c.args.index.now) c.args.target) (left_none c.args.slots c.args.slots.count (omega arith)));
 }
 
 pub loop-number-preserved : goal.loop-number-preserved
