@@ -13,7 +13,7 @@ ghost use Rattle.homeo_desugar.specs.inner.Made.{IsLifted, IsTested, IsAdded};
 ghost use Rattle.homeo_desugar.specs.inner.Visits.{term_of, added, adding, used_and};
 
 use crate::chains::read_chain;
-use crate::making::{Making, choice, equal, fresh, literal_of, read};
+use crate::making::{Making, choice, equal, fresh, list_with_room, literal_of, read};
 use crate::objects::{cell, field_cell, used};
 use homeo_context::{BoundRows, Context, Slot, Slots, argument_of};
 use homeo_syntax::{Cond, Expr, LCommand, LCond, LExpr, LTest, List, Memory, Temp, Test};
@@ -70,7 +70,7 @@ fn term(slot: Slot<'_>, field: Option<u32>) -> LExpr
 fn add(alloc: Global, total: u32, term: LExpr) -> Result<LCommand, Memory>
     ensures { IfOk result (λ c. plain_lcommand c ≡ added total (plain_lexpr term)) }
 {
-    let mut terms = List::new(alloc);
+    let mut terms = list_with_room(alloc, 2)?;
     terms.push(fresh(total))?;
     terms.push(term)?;
     Ok(LCommand::Assign {
@@ -146,7 +146,7 @@ fn lift_all(es: &[Expr], context: &Context<'_>, out: &mut Making) -> Result<List
         (lift_all (plain_context context.now) (exprs (map plain_expr es.now)) out.old.next)
         (low_exprs (map plain_lexpr r.items))) }
 {
-    let mut lifted = List::new(context.alloc);
+    let mut lifted = list_with_room(context.alloc, es.len())?;
     for e in es {
         let one = lift(e, context, out)?;
         lifted.push(one)?;
@@ -187,8 +187,9 @@ pub(crate) fn lift_cond(c: &Cond, context: &Context<'_>, out: &mut Making) -> Re
     ensures { IfOk result (λ r. IsLifted out.old out.new
         (lift_cond (plain_context context.now) (plain_cond c.now) out.old.next) (plain_lcond r)) }
 {
-    let mut lifted = List::new(context.alloc);
-    lift_tests(c.tests.as_slice(), context, &mut lifted, out)?;
+    let tests = c.tests.as_slice();
+    let mut lifted = list_with_room(context.alloc, tests.len())?;
+    lift_tests(tests, context, &mut lifted, out)?;
     Ok(LCond { tests: lifted })
 }
 

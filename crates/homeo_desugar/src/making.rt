@@ -1,6 +1,6 @@
 //! The parts that an L form is made of.
 
-ghost use Rattle.std.specs.Prelude.{◌≡◌, suc, map, IfOk, OnOk};
+ghost use Rattle.std.specs.Prelude.{◌≡◌, suc, [], map, IfOk, OnOk};
 ghost use Rattle.homeo_syntax.specs.Low.{If, Comparison, NoCommand, NoTest};
 ghost use Rattle.homeo_syntax.specs.LowView.{low_tests, plain_lexpr, plain_ltest, plain_lcond, plain_lcommand};
 ghost use Rattle.homeo_meaning.specs.LForm.{both, one, in_front, read, fresh, literal_of, equal, one_test, unless_ended, guard, set_flag, within, guarded};
@@ -75,6 +75,13 @@ impl Making {
     }
 }
 
+/// An empty list with room for so many items.
+pub(crate) fn list_with_room<T>(alloc: Global, count: usize) -> Result<List<T>, Memory>
+    ensures { IfOk result (λ l. l ≡ record { items = []; spare = 0 }) }
+{
+    Ok(List::from_vec(Vec::with_capacity(alloc, count)?))
+}
+
 /// Reads an object.
 #[tactic(auto, using(homeo_syntax::proofs::LowViews::low_phrase_views), unfolding(homeo_meaning::specs::Key::definitions))]
 pub(crate) fn read(place: u32) -> LExpr
@@ -119,7 +126,7 @@ pub(crate) fn equal(value: LExpr, number: i64) -> LTest
 pub(crate) fn one_test(alloc: Global, test: LTest) -> Result<LCond, Memory>
     ensures { IfOk result (λ c. plain_lcond c ≡ one_test (plain_ltest test)) }
 {
-    let mut tests = List::new(alloc);
+    let mut tests = list_with_room(alloc, 1)?;
     tests.push(test)?;
     Ok(LCond { tests })
 }
@@ -213,7 +220,7 @@ pub(crate) fn push_within(
 pub(crate) fn within(alloc: Global, bounds: Spot, value: &LExpr) -> Result<LCond, Memory>
     ensures { IfOk result (λ c. plain_lcond c ≡ within (plain_spot bounds) (plain_lexpr value.now) NoTest) }
 {
-    let mut tests = List::new(alloc);
+    let mut tests = list_with_room(alloc, 2)?;
     push_within(alloc, &mut tests, bounds, value)?;
     Ok(LCond { tests })
 }

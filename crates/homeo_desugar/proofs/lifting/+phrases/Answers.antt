@@ -154,7 +154,7 @@ unfolding syntax_definitions
 lift_all-loop-e-init t c =
     let whole = lift_all (plain_context c.args.context.now) (exprs (map plain_expr c.args.es.now)) c.args.out.now.next in
     record {
-      phrase = ap (λ l. both_exprs (low_exprs (map plain_lexpr l.items)) whole.phrase) c.new-lifted.ensures;
+      phrase = ap (λ l. both_exprs (low_exprs (map plain_lexpr l.items)) whole.phrase) c.in_ok-lifted.ensures;
       commands = refl;
       next = refl;
     }
@@ -173,8 +173,8 @@ lift_all-returns t c =
 pub lift_cond-returns : goal.lift_cond-returns
 unfolding syntax_definitions
 lift_cond-returns t c =
-    let seen = plain_conjunction c.args.c.now ∙ sym (ap (λ l. tests (map plain_test l)) c.as_slice.ensures) in
-    let none = ap (λ l. low_tests (map plain_ltest l.items)) c.new-lifted.ensures in
+    let seen = plain_conjunction c.args.c.now ∙ sym (ap (λ l. tests (map plain_test l)) c.as_slice-tests.ensures) in
+    let none = ap (λ l. low_tests (map plain_ltest l.items)) c.in_ok-lifted.ensures in
     cond_lifted (plain_context c.args.context.now) c.args.out.now c.lift_tests.new.out (plain_cond c.args.c.now) _ _ _ _ seen none (low_conjunction_of c.lift_tests.new.lifted) c.in_ok-lift_tests.ensures
 
 pub lift_test-returns-in-True : goal.lift_test-returns-in-True

@@ -16,6 +16,6 @@ returns c =
     low_Sum c.push-2.new.self
     ∙ ap (λ l. L.Sum (low_exprs (map plain_lexpr l.items))) c.in_ok-push-2.ensures.ok
     ∙ ap (λ l. L.Sum (low_exprs (map plain_lexpr (l.items ++ c.args.term ∷ [])))) c.in_ok-push.ensures.ok
-    ∙ ap (λ l. L.Sum (low_exprs (map plain_lexpr ((l.items ++ c.fresh.result ∷ []) ++ c.args.term ∷ [])))) c.new-terms.ensures
+    ∙ ap (λ l. L.Sum (low_exprs (map plain_lexpr ((l.items ++ c.fresh.result ∷ []) ++ c.args.term ∷ [])))) c.in_ok-terms.ensures
     ∙ ap (λ e. L.Sum (L.MoreExpr e (L.MoreExpr (plain_lexpr c.args.term) L.NoExpr))) c.fresh.ensures
     )

@@ -15,4 +15,4 @@ unfolding definitions syntax_definitions
 returns c =
     low_conjunction_of c.push_within.new.tests
     ∙ c.in_ok-push_within.ensures
-    ∙ ap (λ l. both_tests (low_tests (map plain_ltest l.items)) (within (plain_spot c.args.bounds) (plain_lexpr c.args.value.now) NoTest)) c.new-tests.ensures
+    ∙ ap (λ l. both_tests (low_tests (map plain_ltest l.items)) (within (plain_spot c.args.bounds) (plain_lexpr c.args.value.now) NoTest)) c.in_ok-tests.ensures
