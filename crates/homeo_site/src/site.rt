@@ -277,6 +277,18 @@ impl Site {
     }
 }
 
+/// The same segment with no room for more entries.
+#[tactic(auto, using(homeo_history::proofs::HistoryViews::history_views))]
+fn trimmed(segment: Segment) -> Segment
+    ensures { plain_segment result ≡ plain_segment segment }
+{
+    let mut entries = segment.entries.into_vec();
+    entries.shrink_to_fit();
+    Segment {
+        entries: List::from_vec(entries),
+    }
+}
+
 /// Puts the segment of a start in the place of another, and gives that. One without entries stays, with its room, and gives the start's.
 fn renew_segment(own: &mut Segment, start: Segment) -> Segment
     requires { start.entries ≡ record { items = []; spare = 0 } }
@@ -285,7 +297,7 @@ fn renew_segment(own: &mut Segment, start: Segment) -> Segment
 {
     let ran = mem::replace(own, start);
     if !ran.entries.as_slice().is_empty() {
-        return ran;
+        return trimmed(ran);
     }
     let room = ran.entries.into_vec();
     let entries = List::from_vec(room);
