@@ -26,6 +26,7 @@ use Rattle.homeo_meaning.proofs.Within.{all_within}
 use Rattle.homeo_lform.proofs.Wholes.{ground_whole}
 use Rattle.homeo_plan.specs.Key.{definitions as plan_definitions}
 use Rattle.homeo_plan.specs.Each.{Each}
+use Rattle.homeo_plan.specs.Holding.{AtomHolds}
 use Rattle.homeo_plan.specs.Limit.{form_limit}
 use Rattle.homeo_plan.specs.Linear.{Linear}
 use Rattle.homeo_plan.specs.PlanView.{plain_atoms}
@@ -35,12 +36,14 @@ use Rattle.homeo_plan.proofs.GroundNumbers.{values_small}
 use Rattle.homeo_follow.specs.Key.{definitions as follow_definitions}
 use Rattle.homeo_follow.specs.Brought.{Brought, brought, plain_part}
 use Rattle.homeo_follow.specs.Expanded.{expanded}
-use Rattle.homeo_follow.specs.Follow.{followed}
+use Rattle.homeo_follow.specs.Follow.{own_state, followed}
 use Rattle.homeo_follow.specs.Named.{named}
 use Rattle.homeo_follow.specs.Rebased.{rebased, gains}
+use Rattle.homeo_follow.specs.Steady.{IsSteady}
 use Rattle.homeo_follow.specs.declared.part.PlanPart.{PlanPart}
 use Rattle.homeo_follow.proofs.PlannedAtoms.{atoms_are_followed}
 use Rattle.homeo_follow.proofs.Staying.{parts_stay}
+use Rattle.homeo_follow.proofs.Steadying.{part_moves}
 use Rattle.homeo_follow.proofs.Unmoved.{parts_rebased}
 use Rattle.homeo_follow.proofs.Weighed.{accepted_small}
 use Rattle.homeo_build.specs.Key.{definitions}
@@ -49,7 +52,7 @@ use Rattle.homeo_build.specs.Plan.{AreParts}
 use Rattle.homeo_build.specs.inner.Followed.{IsSmallAlong}
 use Rattle.homeo_build.specs.inner.Rebased.{IsRebased, AreRebased}
 use Rattle.homeo_build.proofs.FormsMade.{placed_map}
-use Rattle.homeo_build.proofs.Grown.{same_length, same_place}
+use Rattle.homeo_lemmas.proofs.Grown.{same_length, same_place}
 
 -- ---- numbers along forms
 each_here : {X Y : Type 0} (P : Y → Type 0) (f : X → Y) (xs : List X) (i : ℕ) (x : X) → Each P (map f xs) → i < length xs → x ≡ get_or xs i x → P (f x)
@@ -212,23 +215,38 @@ values_same last base (x ∷ xs) h =
     let here : values_of last x ≡ values_of base x = grind (arith, ints, both.0) in
     (here, values_same last base xs both.1)
 
--- what is kept of a base, where the form names no object that has another value at another one; both are lent
+-- what is kept of a base, and the objects that the form names; all are lent
 module _
-    (last base from to : List ℤ) (from_is : from ≡ last) (to_is : to ≡ base) (f : Command) (xs : List ℕ) (kept : Brought)
-    (names : xs ≡ named f) (is : kept ≡ brought (values_of last) f) (stays : list_all (same_value from to) xs ≡ true)
+    (last from to : List ℤ) (from_is : from ≡ last) (f : Command) (xs : List ℕ) (kept : Brought) (names : xs ≡ named f)
+    (is : kept ≡ brought (values_of last) f)
   where
-    agree : Each (λ x. values_of last x ≡ values_of base x) (named f)
-    agree =
-        subst (Each (λ x. values_of last x ≡ values_of base x)) names
-        (values_same last base xs (sym (λ i. list_all (same_value (from_is i) (to_is i)) xs) ∙ stays))
+    pub kept_here : kept ≡ brought (values_of from) f
+    kept_here = is ∙ ap (λ l. brought (values_of l) f) (sym from_is)
 
-    pub kept_stays : kept ≡ brought (values_of base) f
-    kept_stays = is ∙ parts_stay (values_of last) (values_of base) f agree
+    pub names_agree : list_all (same_value from to) xs ≡ true → Each (λ x. values_of from x ≡ values_of to x) (named f)
+    names_agree stays = subst (Each (λ x. values_of from x ≡ values_of to x)) names (values_same from to xs stays)
 
-    pub kept_rebased : IsRebased from to kept (brought (values_of base) f)
-    kept_rebased =
-        parts_rebased (values_of last) (values_of base) f agree
-        ∙ sym (λ i. rebased (gains (values_of (from_is i)) (values_of (to_is i))) (is i))
+-- what a form brings at another base is what it brought, and that rebased, where no object that it names has another value
+pub kept_same :
+    (from to : List ℤ) (f : Command) (kept : Brought) → kept ≡ brought (values_of from) f →
+    Each (λ x. values_of from x ≡ values_of to x) (named f) → kept ≡ brought (values_of to) f
+kept_same from to f kept is agree = is ∙ parts_stay (values_of from) (values_of to) f agree
+
+pub kept_stays :
+    (from to : List ℤ) (f : Command) (kept : Brought) → kept ≡ brought (values_of from) f →
+    Each (λ x. values_of from x ≡ values_of to x) (named f) → IsRebased from to kept (brought (values_of to) f)
+kept_stays from to f kept is agree =
+    parts_rebased (values_of from) (values_of to) f agree ∙ ap (rebased (gains (values_of from) (values_of to))) (sym is)
+
+-- it is what it brought, rebased, where its tests come out as they did
+pub kept_moves :
+    (from to : List ℤ) (f : Command) (kept : Brought) → kept ≡ brought (values_of from) f → IsSteady f →
+    Each (AtomHolds (own_state (gains (values_of from) (values_of to)))) kept.atoms → IsRebased from to kept (brought (values_of to) f)
+unfolding follow_definitions
+kept_moves from to f kept is steady holds =
+    let g = gains (values_of from) (values_of to) in
+    part_moves (values_of from) (values_of to) f steady (subst (λ (r : Brought). Each (AtomHolds (own_state g)) r.atoms) is holds)
+    ∙ ap (rebased g) (sym is)
 
 -- ---- a ground call
 module _ (w : s.Workload) (g : Ground) (b : ℕ → ℤ) (site : g.site < sites_of w) where

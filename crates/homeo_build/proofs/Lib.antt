@@ -7,7 +7,6 @@ pub mod FewSites
 pub mod Following
 pub mod FormsMade
 pub mod GroundCalls
-pub mod Grown
 pub mod NamedDeltas
 pub mod NamedObjects
 pub mod PlanParts
@@ -16,5 +15,6 @@ pub mod Rebasing
 pub mod ShortResiduals
 pub mod SiteShares
 pub mod SizedCalls
+pub mod Steadiness
 pub mod Undivided
 pub mod WrittenDeltas

@@ -1,4 +1,5 @@
 pub mod Bodies
+pub mod Bounding
 pub mod CallForms
 pub mod Followed
 pub mod Frozen

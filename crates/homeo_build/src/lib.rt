@@ -14,6 +14,7 @@ mod rebased;
 pub mod residuals;
 pub mod shares;
 mod sites;
+mod steady;
 pub mod treaties;
 mod written;
 

@@ -1,6 +1,6 @@
 //! What the L forms of a workload bring to the plans of its rounds.
 
-ghost use Rattle.std.specs.Prelude.{◌≡◌, ℕ, IfOk, IsTrue};
+ghost use Rattle.std.specs.Prelude.{◌≡◌, ℕ, IfOk, IfSome, IsTrue};
 ghost use Rattle.std.specs.List.{list_all};
 ghost use Rattle.std.specs.Ordering.{int_eq};
 ghost use Rattle.homeo_syntax.specs.LowView.{plain_lcommand};
@@ -10,18 +10,21 @@ ghost use Rattle.homeo_meaning.specs.Bounds.{IsWithin};
 ghost use Rattle.homeo_meaning.specs.Schema.{schema_of};
 ghost use Rattle.homeo_meaning.specs.Serial.{values_of};
 ghost use Rattle.homeo_meaning.specs.Small.{IsSmall};
+ghost use Rattle.homeo_plan.specs.Each.{Each};
 ghost use Rattle.homeo_plan.specs.Limit.{form_limit};
 ghost use Rattle.homeo_follow.specs.Brought.{brought, plain_part};
+ghost use Rattle.homeo_follow.specs.Named.{named};
 ghost use Rattle.homeo_build.specs.Plan.{AreParts, IsObjectPlan};
 ghost use Rattle.homeo_build.specs.inner.Followed.{IsSmallAlong};
 ghost use Rattle.homeo_build.specs.inner.Rebased.{IsRebased, AreRebased};
 
 use crate::compiled::Compiled;
+use crate::steady::is_steady;
 use homeo_follow::PlanPart;
 use homeo_linear::Follower;
 use homeo_meaning::Database;
 use homeo_meaning::padded::item_or;
-use homeo_outline::{ObjectPlan, is_rebased};
+use homeo_outline::{ObjectPlan, is_rebased, rebased_part};
 use homeo_syntax::{LCommand, List, Memory};
 use std::alloc::Global;
 use std::sync::Arc;
@@ -54,8 +57,7 @@ pub(crate) fn parts_at(
 }
 
 /// The same, where there is a plan at another base: the part of a form stays, shared with that plan, where no object that the form
-/// names has another value, and is rebased by that. Those that are made anew are compared with the ones that are kept, up to the
-/// first that isn't rebased.
+/// names has another value, and is rebased by that.
 pub(crate) fn parts_after(
     alloc: Global,
     c: &Compiled,
@@ -77,41 +79,80 @@ pub(crate) fn parts_after(
     let mut parts = List::new(alloc);
     let mut are_rebased = true;
     for (i, form) in forms.forms.as_slice().iter().enumerate() {
-        let old = &kept[i];
         let stays = have_same_values(names[i].as_slice(), from, to);
-        let part = part_after(alloc, form, old, stays, &mut follower)?;
-        are_rebased = are_rebased && is_rebased_part(old, &part, stays, from, to);
-        parts.push(part)?;
+        let made = part_after(alloc, form, &kept[i], stays, from, to, &mut follower)?;
+        are_rebased = are_rebased && made.is_rebased;
+        parts.push(made.part)?;
     }
     Ok(PartsAfter { parts, are_rebased })
 }
 
-/// What one L form brings at the follower's base: what is kept, where that stays.
+/// What one L form brings at a base, and how that stands to what it brought to a plan of another.
+#[derive(Drop)]
+struct PartAfter {
+    part: Arc<PlanPart>,
+    /// It is known that it is what the form brought to that plan, rebased.
+    is_rebased: bool,
+}
+
+/// What one L form brings at the follower's base: what is kept, where that stays, or that rebased, where its tests are seen to come out
+/// as they did. Another form is followed, and compared.
 fn part_after(
     alloc: Global,
     form: &LCommand,
     kept: &Arc<PlanPart>,
     stays: bool,
+    from: &[i64],
+    to: &[i64],
     follower: &mut Follower<'_>,
-) -> Result<Arc<PlanPart>, Memory>
-    requires kept { IsTrue stays → plain_part kept.now.value ≡ brought (values_of follower.old.base.now) (plain_lcommand form.now) }
+) -> Result<PartAfter, Memory>
+    requires kept { plain_part kept.now.value ≡ brought (values_of from.now) (plain_lcommand form.now) }
+    requires stays { IsTrue stays → Each (λ x. values_of from.now x ≡ values_of to.now x) (named (plain_lcommand form.now)) }
+    requires follower { follower.old.base.now ≡ to.now }
     requires form { IsSmallAlong (values_of follower.old.base.now) (plain_lcommand form.now) }
     requires base { (x : ℕ) → IsSmall form_limit (values_of follower.old.base.now x) }
     ensures follower { follower.new.base.now ≡ follower.old.base.now }
-    ensures part { IfOk result (λ p. plain_part p.value ≡ brought (values_of follower.old.base.now) (plain_lcommand form.now)) }
+    ensures part { IfOk result (λ made. plain_part made.part.value ≡ brought (values_of to.now) (plain_lcommand form.now)) }
+    ensures rebased { IfOk result (λ made. IsTrue made.is_rebased →
+        IsRebased from.now to.now (plain_part kept.now.value) (plain_part made.part.value)) }
 {
     if stays {
-        return Ok(Arc::try_clone(kept)?);
+        let part = Arc::try_clone(kept)?;
+        return Ok(PartAfter {
+            part,
+            is_rebased: true,
+        });
     }
-    part_at(alloc, form, follower)
+    if let Some(part) = moved_part(alloc, form, kept, from, to)? {
+        return Ok(PartAfter {
+            part,
+            is_rebased: true,
+        });
+    }
+    let part = part_at(alloc, form, follower)?;
+    let is_rebased = is_rebased(kept, &part, from, to);
+    Ok(PartAfter { part, is_rebased })
 }
 
-/// Whether what an L form brings at a base is found to be what is kept of it, rebased. What stays is so, and isn't compared.
-fn is_rebased_part(kept: &PlanPart, part: &PlanPart, stays: bool, from: &[i64], to: &[i64]) -> bool
-    requires { IsTrue stays → IsRebased from.now to.now (plain_part kept.now) (plain_part part.now) }
-    ensures { IsTrue result → IsRebased from.now to.now (plain_part kept.now) (plain_part part.now) }
+/// What is kept of an L form, rebased, where its tests are seen to come out at this base as they did.
+fn moved_part(
+    alloc: Global,
+    form: &LCommand,
+    kept: &PlanPart,
+    from: &[i64],
+    to: &[i64],
+) -> Result<Option<Arc<PlanPart>>, Memory>
+    requires { plain_part kept.now ≡ brought (values_of from.now) (plain_lcommand form.now) }
+    ensures part { IfOk result (λ found. IfSome found (λ made. plain_part made.value ≡ brought (values_of to.now) (plain_lcommand form.now))) }
+    ensures rebased { IfOk result (λ found. IfSome found (λ made. IsRebased from.now to.now (plain_part kept.now) (plain_part made.value))) }
 {
-    stays || is_rebased(kept, part, from, to)
+    if !is_steady(form) {
+        return Ok(None);
+    }
+    let Some(part) = rebased_part(alloc, kept, from, to)? else {
+        return Ok(None);
+    };
+    Ok(Some(Arc::new(alloc, part)?))
 }
 
 /// What one L form brings at the follower's base, to be shared.

@@ -1,10 +1,12 @@
 pub mod Deltas
 pub mod Expansions
 pub mod Needed
+pub mod Outcomes
 pub mod PlannedAtoms
 pub mod Rebasing
 pub mod Simulated
 pub mod Standing
+pub mod Steadying
 pub mod Staying
 pub mod Templated
 pub mod TermTests

@@ -19,7 +19,7 @@ use Rattle.homeo_follow.specs.Follow.{passes_by, holds_by, passed_test, failed_t
 abbrev pub constants : Forms → State
 constants f p = (f p).constant
 
-product_constant_is : (a b : Linear) → (multiply_forms a b).constant ≡ a.constant *ℤ b.constant
+pub product_constant_is : (a b : Linear) → (multiply_forms a b).constant ≡ a.constant *ℤ b.constant
 unfolding plan_definitions
 product_constant_is a b = go (is_pure a) (is_pure b)
   where

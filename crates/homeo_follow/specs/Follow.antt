@@ -6,7 +6,7 @@ use Rattle.homeo_syntax.specs.declared.low.SplitName.{SplitName}
 use Rattle.homeo_syntax.specs.declared.low.SplitName.TheVariants as split
 use Rattle.homeo_syntax.specs.Low.{Test, Cond, True, Not, Comparison, NoTest, MoreTest, Command, Commands, Skip, Assign, Write, Print, Seq, If, NoCommand, MoreCommand}
 use Rattle.homeo_meaning.specs.Meaning.{compared}
-use Rattle.homeo_meaning.specs.LowMeaning.{TempAt, BaseAt, DeltaAt, location_of, put}
+use Rattle.homeo_meaning.specs.LowMeaning.{TempAt, BaseAt, DeltaAt, State, location_of, put}
 use Rattle.homeo_plan.specs.declared.forms.Delta.{Delta}
 use Rattle.homeo_plan.specs.Linear.{Linear, delta_of, add_deltas, support, constant_form, add_forms, scale_form, Forms, form}
 use Rattle.homeo_plan.specs.Atoms.{true_comparison, false_comparison}
@@ -107,6 +107,12 @@ object_delta x = delta_of x 0
 abbrev pub object_form : ℤ → ℕ → Linear
 unfolding definitions
 object_form n x = record { constant = n; terms = record { delta = object_delta x; factor = pos 1 } ∷ []; mixed = [] }
+
+-- the deltas of objects, whatever the site: those of one site alone
+abbrev pub own_state : (ℕ → ℤ) → State
+own_state x (TempAt t) = pos 0
+own_state x (BaseAt n) = pos 0
+own_state x (DeltaAt n j) = x n
 
 -- at a base b: temporaries are 0, and objects whole
 abbrev pub object_forms : (ℕ → ℤ) → Forms

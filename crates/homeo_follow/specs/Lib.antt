@@ -6,3 +6,4 @@ pub mod Key
 pub mod Named
 pub mod ObjectTemplate
 pub mod Rebased
+pub mod Steady

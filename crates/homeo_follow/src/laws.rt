@@ -14,17 +14,19 @@ ghost use Rattle.homeo_meaning.specs.Serial.{values_of};
 ghost use Rattle.homeo_meaning.specs.Small.{IsSmall};
 ghost use Rattle.homeo_meaning.specs.Whole.{IsWhole};
 ghost use Rattle.homeo_plan.specs.Each.{Each};
+ghost use Rattle.homeo_plan.specs.Holding.{AtomHolds};
 ghost use Rattle.homeo_plan.specs.Limit.{form_limit};
 ghost use Rattle.homeo_plan.specs.Needs.{remote};
 ghost use Rattle.homeo_plan.specs.Template.{PlannedCall, atoms_of, needs_of, Clause, template};
 ghost use Rattle.homeo_plan.specs.declared.forms.Delta.{Delta};
 ghost use Rattle.homeo_follow.specs.Brought.{brought};
 ghost use Rattle.homeo_follow.specs.Expanded.{expanded, expanded_deltas};
-ghost use Rattle.homeo_follow.specs.Follow.{object_forms, follow, followed, needed};
+ghost use Rattle.homeo_follow.specs.Follow.{own_state, object_forms, follow, followed, needed};
 ghost use Rattle.homeo_follow.specs.FollowSizes.{AreNumbers, CanBeFollowed};
 ghost use Rattle.homeo_follow.specs.Named.{named};
 ghost use Rattle.homeo_follow.specs.ObjectTemplate.{expanded_clause, IsByObjects};
 ghost use Rattle.homeo_follow.specs.Rebased.{rebased_clause, rebased, gains};
+ghost use Rattle.homeo_follow.specs.Steady.{IsSteady};
 
 /// The atoms of a ground call over whole objects, at its site and at a base, are those of its command followed by objects, with
 /// each object's factor at each site. So they are the same at every site.
@@ -68,6 +70,13 @@ pub fn accepted_calls_are_followed_by_small_forms()
 pub fn parts_stay()
     ensures same { (b d : ℕ → ℤ) (c : Command) → Each (λ x. b x ≡ d x) (named c) → brought b c ≡ brought d c }
     ensures rebased { (b d : ℕ → ℤ) (c : Command) → Each (λ x. b x ≡ d x) (named c) →
+        brought d c ≡ rebased (gains b d) (brought b c) }
+{}
+
+/// Where what a command asks at one base holds of what the objects gained to another, its tests come out there as they did. So what it
+/// brings there is the same, rebased, if it is steady: of a condition with several tests no two fail at once.
+pub fn parts_move()
+    ensures { (b d : ℕ → ℤ) (c : Command) → IsSteady c → Each (AtomHolds (own_state (gains b d))) (followed b c).atoms →
         brought d c ≡ rebased (gains b d) (brought b c) }
 {}
 

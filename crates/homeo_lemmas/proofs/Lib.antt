@@ -1,4 +1,5 @@
 pub mod Bools
+pub mod Grown
 pub mod Integers
 pub mod Lists
 pub mod Naturals

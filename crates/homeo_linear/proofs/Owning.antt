@@ -10,14 +10,14 @@ use Rattle.std.proofs.lemmas.List.{map_more}
 use Rattle.std.proofs.lemmas.Simd.{map-map}
 use Rattle.homeo_meaning.specs.LowMeaning.{State, BaseAt}
 use Rattle.homeo_plan.specs.declared.forms.Delta.{Delta}
-use Rattle.homeo_follow.specs.Follow.{Followed}
+use Rattle.homeo_follow.specs.Follow.{own_state, Followed}
 use Rattle.homeo_plan.specs.declared.forms.Term.{Term}
 use Rattle.homeo_plan.specs.Linear.{add_deltas, terms_value, form_value}
 use Rattle.homeo_linear.specs.declared.effect.OwnForm.{OwnForm}
 use Rattle.homeo_linear.specs.declared.effect.OwnTerm.{OwnTerm}
 use Rattle.homeo_linear.specs.declared.effect.OwnWrite.{OwnWrite}
 use Rattle.homeo_linear.specs.declared.effect.Effect.{Effect}
-use Rattle.homeo_linear.specs.Effect.{own_state, plain_own_term, plain_own_form, IsEffect}
+use Rattle.homeo_linear.specs.Effect.{plain_own_term, plain_own_form, IsEffect}
 use Rattle.homeo_linear.proofs.Gaining.{any_once}
 
 -- a term on a whole object is one over own deltas

@@ -1,19 +1,13 @@
 -- What a command writes and prints at a site, by forms over the site's own deltas, wherever its tests come out as at the base.
-use Rattle.std.specs.Prelude.{◌≡◌, ◌==◌, ℕ, [], map, ℤ, pos}
+use Rattle.std.specs.Prelude.{◌≡◌, ◌==◌, ℕ, [], map}
 use Rattle.std.specs.List.{list_any}
-use Rattle.homeo_meaning.specs.LowMeaning.{TempAt, BaseAt, DeltaAt, State}
+use Rattle.homeo_meaning.specs.LowMeaning.{BaseAt}
 use Rattle.homeo_plan.specs.Linear.{Linear}
 use Rattle.homeo_plan.specs.declared.forms.Term.{Term}
 use Rattle.homeo_follow.specs.Follow.{object_delta, Followed}
 use Rattle.homeo_linear.specs.declared.effect.OwnTerm.{OwnTerm}
 use Rattle.homeo_linear.specs.declared.effect.OwnForm.{OwnForm}
 use Rattle.homeo_linear.specs.declared.effect.Effect.{Effect}
-
--- the deltas of objects, whatever the site: those of one site alone
-abbrev pub own_state : (ℕ → ℤ) → State
-own_state x (TempAt t) = pos 0
-own_state x (BaseAt n) = pos 0
-own_state x (DeltaAt n j) = x n
 
 -- a form over own deltas as one over whole objects
 abbrev pub plain_own_term : OwnTerm → Term

@@ -5,8 +5,9 @@ ghost use Rattle.std.specs.Int.{w64, int_wrap};
 ghost use Rattle.homeo_meaning.specs.LowMeaning.{BaseAt};
 ghost use Rattle.homeo_meaning.specs.Serial.{values_of};
 ghost use Rattle.homeo_plan.specs.Linear.{form_value};
+ghost use Rattle.homeo_follow.specs.Follow.{own_state};
 ghost use Rattle.homeo_form.specs.Standing.{forms_of};
-ghost use Rattle.homeo_linear.specs.Effect.{own_state, plain_own_term, plain_own_form};
+ghost use Rattle.homeo_linear.specs.Effect.{plain_own_term, plain_own_form};
 
 use homeo_form::{Form, Standing};
 use homeo_meaning::padded::item_or;

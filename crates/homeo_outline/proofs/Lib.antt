@@ -1,3 +1,4 @@
+pub mod Holding
 pub mod Leading
 pub mod Moving
 pub mod Noting

@@ -35,23 +35,15 @@ module _ (g : ℕ → ℤ) where
 
 -- ---- sums and products that are checked to be in range
 -- the numbers as the code reads them are those that they stand for
-pub found_sum :
-    (r : Option ℤ) (a b n constant more new : ℤ) → SomeIff r (FitsSigned w128 (a +ℤ b)) (a +ℤ b) → option_eq int_eq r (Some n) ≡ true →
-    a ≡ constant → b ≡ more → n ≡ new → new ≡ constant +ℤ more
-found_sum None a b n constant more new is same p q s = absurd cc
-found_sum (Some x) a b n constant more new is same p q s = sym s ∙ sym (int_is x n same) ∙ is.1 ∙ ap₂ ◌+ℤ◌ p q
+pub checked :
+    (op : ℤ → ℤ → ℤ) (r : Option ℤ) (a b m n : ℤ) → SomeIff r (FitsSigned w128 (op a b)) (op a b) → a ≡ m → b ≡ n → IfSome r (λ k. k ≡ op m n)
+checked op None a b m n is p q = tt
+checked op (Some x) a b m n is p q = is.1 ∙ ap₂ op p q
 
-pub found_product :
-    (r : Option ℤ) (a b factor gain : ℤ) → SomeIff r (FitsSigned w128 (a *ℤ b)) (a *ℤ b) → a ≡ factor → b ≡ gain →
-    IfSome r (λ n. n ≡ factor *ℤ gain)
-found_product None a b factor gain is p q = tt
-found_product (Some x) a b factor gain is p q = is.1 ∙ ap₂ ◌*ℤ◌ p q
-
-pub slack_left :
-    (r : Option ℤ) (a b slack gone : ℤ) → SomeIff r (FitsSigned w128 (a -ℤ b)) (a -ℤ b) → a ≡ slack → b ≡ gone →
-    IfSome r (λ s. s ≡ slack +ℤ neg_ℤ gone)
-slack_left None a b slack gone is p q = tt
-slack_left (Some x) a b slack gone is p q = is.1 ∙ ap₂ ◌-ℤ◌ p q
+-- a number that is found to be one that was checked
+pub found_number : (r : Option ℤ) (n new there : ℤ) → IfSome r (λ k. k ≡ there) → option_eq int_eq r (Some n) ≡ true → n ≡ new → new ≡ there
+found_number None n new there is same p = absurd cc
+found_number (Some x) n new there is same p = sym p ∙ sym (int_is x n same) ∙ is
 
 -- ---- lists whose items are found equal
 pub terms_same : (ts us : List Term) → pointwise term_test ts us ≡ true → ts ≡ us

@@ -1,3 +1,4 @@
 pub mod Alike
+pub mod Holding
 pub mod Moved
 pub mod Uses

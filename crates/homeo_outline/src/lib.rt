@@ -11,4 +11,4 @@ mod uses;
 pub use leaders::Leaders;
 pub use outline::Outline;
 pub use plan::{ObjectPlan, outlined, whole_template};
-pub use rebasing::{is_rebased, rebased_slacks};
+pub use rebasing::{is_rebased, rebased_part, rebased_slacks};

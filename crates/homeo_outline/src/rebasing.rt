@@ -1,18 +1,24 @@
 //! What commands bring at one base, seen from another: the same terms, where the same branches are taken, and other constants.
 
-ghost use Rattle.std.specs.Prelude.{◌≡◌, ◌==◌, ℕ, IsTrue, if◌then◌else◌, map, ◌+ℤ◌, ◌*ℤ◌, neg_ℤ, IfOk, IfSome};
+ghost use Rattle.std.specs.Prelude.{◌≡◌, ◌==◌, ℕ, IsTrue, if◌then◌else◌, map, pos, ◌+ℤ◌, ◌*ℤ◌, neg_ℤ, IfOk, IfSome};
+ghost use Rattle.std.specs.List.{list_all};
+ghost use Rattle.std.specs.Ordering.{int_eq};
 ghost use Rattle.homeo_meaning.specs.Serial.{values_of};
+ghost use Rattle.homeo_plan.specs.Each.{Each};
+ghost use Rattle.homeo_plan.specs.Holding.{AtomHolds};
 ghost use Rattle.homeo_plan.specs.PlanView.{plain_linear, plain_atom};
 ghost use Rattle.homeo_follow.specs.Brought.{plain_part};
+ghost use Rattle.homeo_follow.specs.Follow.{own_state};
 ghost use Rattle.homeo_follow.specs.Rebased.{gained, rebased_form, rebased_clause, rebased, gains};
 ghost use Rattle.homeo_outline.specs.Numbers.{has, clauses_on};
 ghost use Rattle.homeo_outline.specs.ObjectPlan.{clauses_with};
+ghost use Rattle.homeo_outline.specs.inner.Holding.{IsRebasedAtom, AreRebasedAtoms};
 ghost use Rattle.homeo_outline.specs.inner.Moved.{slack_at, moved_slack};
 
 use crate::outline::Outline;
 use homeo_follow::PlanPart;
 use homeo_meaning::padded::{item_or, put};
-use homeo_plan::{Atom, Linear, Term};
+use homeo_plan::{Atom, AtomSet, Delta, FreezeSet, Linear, Term};
 use homeo_syntax::{List, Memory};
 use std::alloc::Global;
 
@@ -47,15 +53,20 @@ fn gained(terms: &[Term], from: &[i64], to: &[i64]) -> Option<i128>
     Some(sum)
 }
 
+/// A form's constant with what its terms gained; none where it is out of the range of i128 on the way.
+fn constant_after(form: &Linear, from: &[i64], to: &[i64]) -> Option<i128>
+    ensures { IfSome result (λ n. n ≡ (rebased_form (gains (values_of from.now) (values_of to.now)) (plain_linear form.now)).constant) }
+{
+    let gained = gained(form.terms.as_slice(), from, to)?;
+    form.constant.checked_add(gained)
+}
+
 /// Whether a form's constant is another's with what its terms gained.
 fn has_gained(old: &Linear, new: &Linear, from: &[i64], to: &[i64]) -> bool
     ensures { IsTrue result → new.now.constant ≡
         (rebased_form (gains (values_of from.now) (values_of to.now)) (plain_linear old.now)).constant }
 {
-    match gained(old.terms.as_slice(), from, to) {
-        Some(gained) => old.constant.checked_add(gained) == Some(new.constant),
-        None => false,
-    }
+    constant_after(old, from, to) == Some(new.constant)
 }
 
 /// Whether two forms have the same terms and mix the same.
@@ -101,6 +112,87 @@ pub fn is_rebased(old: &PlanPart, new: &PlanPart, from: &[i64], to: &[i64]) -> b
             from,
             to,
         )
+}
+
+/// Whether none of these deltas is of an object that gained anything.
+fn gain_nothing(deltas: &[Delta], from: &[i64], to: &[i64]) -> bool
+    ensures { result ≡ list_all (λ d. int_eq (gains (values_of from.now) (values_of to.now) d.object) (pos 0)) deltas.now }
+{
+    deltas
+        .iter()
+        .all(|delta| gain(delta.object as usize, from, to) == 0)
+}
+
+/// An atom at another base, if it holds there; none where a number is out of the range of i128 on the way.
+fn rebased_atom(
+    alloc: Global,
+    atom: &Atom,
+    from: &[i64],
+    to: &[i64],
+) -> Result<Option<Atom>, Memory>
+    ensures { IfOk result (λ found. IfSome found (IsRebasedAtom (gains (values_of from.now) (values_of to.now)) (plain_atom atom.now))) }
+{
+    let Some(constant) = constant_after(&atom.form, from, to) else {
+        return Ok(None);
+    };
+    if constant > 0 || !gain_nothing(atom.form.mixed.as_slice(), from, to) {
+        return Ok(None);
+    }
+    let mut form = atom.form.copy(alloc)?;
+    form.constant = constant;
+    Ok(Some(Atom { form }))
+}
+
+/// Atoms at another base, if all hold there; none where a number is out of the range of i128 on the way.
+fn rebased_atoms(
+    alloc: Global,
+    atoms: &[Atom],
+    from: &[i64],
+    to: &[i64],
+) -> Result<Option<Vec<Atom>>, Memory>
+    ensures { IfOk result (λ found. IfSome found (λ made.
+        AreRebasedAtoms (gains (values_of from.now) (values_of to.now)) (map plain_atom atoms.now) (map plain_atom made.items))) }
+{
+    let mut made = Vec::with_capacity(alloc, atoms.len())?;
+    for atom in atoms {
+        let Some(atom) = rebased_atom(alloc, atom, from, to)? else {
+            return Ok(None);
+        };
+        made.push(atom)?;
+    }
+    Ok(Some(made))
+}
+
+/// What a command brings at one base, rebased to another, if all that it asks holds of what the objects gained; none where a number is
+/// out of the range of i128 on the way. It takes time and memory linear in the part.
+///
+/// # Errors
+///
+/// `Memory` when out of memory.
+pub fn rebased_part(
+    alloc: Global,
+    part: &PlanPart,
+    from: &[i64],
+    to: &[i64],
+) -> Result<Option<PlanPart>, Memory>
+    ensures part { IfOk result (λ found. IfSome found (λ made.
+        plain_part made ≡ rebased (gains (values_of from.now) (values_of to.now)) (plain_part part.now))) }
+    ensures holds { IfOk result (λ found. IfSome found (λ made.
+        Each (AtomHolds (own_state (gains (values_of from.now) (values_of to.now)))) (plain_part part.now).atoms)) }
+{
+    let atoms = part.atoms.atoms.as_slice();
+    let Some(atoms) = rebased_atoms(alloc, atoms, from, to)? else {
+        return Ok(None);
+    };
+    let needs = Vec::from_slice(alloc, part.needs.deltas.as_slice())?;
+    Ok(Some(PlanPart {
+        atoms: AtomSet {
+            atoms: List::from_vec(atoms),
+        },
+        needs: FreezeSet {
+            deltas: List::from_vec(needs),
+        },
+    }))
 }
 
 /// The slack of a clause with these terms at another base; none where it is out of the range of i128 on the way.

@@ -102,7 +102,7 @@ unfolding definitions meaning_definitions
 is_empty_is [] h = refl
 is_empty_is (x ∷ xs) h = absurd (true≢false (sym h))
 
-is_pure_value : (a : Linear) (s : State) (x : ℤ) → is_pure a ≡ true → Is a s x → x ≡ a.constant
+pub is_pure_value : (a : Linear) (s : State) (x : ℤ) → is_pure a ≡ true → Is a s x → x ≡ a.constant
 unfolding definitions meaning_definitions
 is_pure_value a s x p h =
     let q = and_parts (is_empty a.terms) (is_empty a.mixed) p in
@@ -134,7 +134,7 @@ is_mix a b s x y hx hy h =
     let m = each_add_deltas (IsZeroAt s) (support a) (support b) h in
     ap₂ ◌*ℤ◌ (is_constant_at_zero a s x hx m.0) (is_constant_at_zero b s y hy m.1) ∙ omega (arith, ints)
 
-is_multiply : (a b : Linear) (s : State) (x y : ℤ) → Is a s x → Is b s y → Is (multiply_forms a b) s (x *ℤ y)
+pub is_multiply : (a b : Linear) (s : State) (x y : ℤ) → Is a s x → Is b s y → Is (multiply_forms a b) s (x *ℤ y)
 unfolding definitions meaning_definitions
 is_multiply a b s x y hx hy = go (is_pure a) refl (is_pure b) refl
   where

@@ -22,8 +22,8 @@ use Rattle.homeo_plan.specs.Tracking.{Is}
 use Rattle.homeo_plan.proofs.PlannedCalls.{planned_member}
 use Rattle.homeo_plan.proofs.Policy.{policy_fits}
 use Rattle.homeo_plan.proofs.Replays.{planned_whole, planned_covers}
-use Rattle.homeo_follow.specs.Follow.{Followed, object_forms, followed}
-use Rattle.homeo_linear.specs.Effect.{own_state, plain_own_form, IsEffect}
+use Rattle.homeo_follow.specs.Follow.{own_state, Followed, object_forms, followed}
+use Rattle.homeo_linear.specs.Effect.{plain_own_form, IsEffect}
 use Rattle.homeo_linear.specs.declared.effect.Effect.{Effect}
 use Rattle.homeo_linear.specs.declared.effect.OwnForm.{OwnForm}
 use Rattle.homeo_linear.specs.declared.effect.OwnWrite.{OwnWrite}

@@ -3,16 +3,16 @@
 use Rattle.homeo_meaning.specs.Key.{definitions as meaning_definitions}
 use Rattle.homeo_plan.specs.Key.{definitions as plan_definitions}
 use Rattle.homeo_follow.specs.Key.{definitions}
-use Rattle.std.proofs.Common.{◌≡◌, ℕ, zero, suc, ◌==◌, ◌+◌, ◌<◌, ◌≤◌, Bool, true, false, cond, not, ◌&&◌, List, [], ◌∷◌, ◌++◌, map, ℤ, pos, ◌+ℤ◌, ◌*ℤ◌, ◌≤ℤ◌, refl, sym, ap, ap₂, ◌∙◌, subst, true≢false, arith}
+use Rattle.std.proofs.Common.{◌≡◌, ℕ, zero, suc, ◌==◌, ◌+◌, ◌<◌, ◌≤◌, Bool, true, false, cond, List, [], ◌∷◌, ◌++◌, map, ℤ, pos, ◌+ℤ◌, ◌*ℤ◌, ◌≤ℤ◌, refl, sym, ap, ap₂, ◌∙◌, subst, arith}
 use Rattle.std.specs.List.{list_any}
 use Rattle.std.proofs.lemmas.Int.{ints}
-use Rattle.std.proofs.lemmas.Bool.{and_parts, or_parts, not-true, not-false}
+use Rattle.std.proofs.lemmas.Bool.{or_parts}
 use Rattle.std.proofs.lemmas.List.Folds.{list_any-append}
 use Rattle.std.proofs.lemmas.Bool.Decides.{nat_tests}
-use Rattle.homeo_lemmas.proofs.Bools.{and_false, or_first}
+use Rattle.homeo_lemmas.proofs.Bools.{or_first}
 use Rattle.homeo_syntax.specs.declared.low.SplitName.TheVariants.{Whole, Base, Delta}
-use Rattle.homeo_syntax.specs.Low.{Expr, Test, Cond, True, Not, Comparison, NoTest, MoreTest, Command, Commands, Skip, Assign, Write, Print, Seq, If, NoCommand, MoreCommand}
-use Rattle.homeo_meaning.specs.LowMeaning.{Location, TempAt, BaseAt, DeltaAt, State, Run, location_of, same_location, put, value, passes, holds, exec, exec_all, whole}
+use Rattle.homeo_syntax.specs.Low.{Command, Commands, Skip, Assign, Write, Print, Seq, If, NoCommand, MoreCommand}
+use Rattle.homeo_meaning.specs.LowMeaning.{Location, TempAt, BaseAt, DeltaAt, State, Run, location_of, same_location, put, value, holds, exec, exec_all, whole}
 use Rattle.homeo_meaning.specs.Whole.{IsWhole}
 use Rattle.homeo_plan.specs.Config.{Config, Fits}
 use Rattle.homeo_plan.specs.Each.{Each}
@@ -21,26 +21,21 @@ use Rattle.homeo_plan.specs.Joined.{Deltas, join, alone}
 use Rattle.homeo_plan.specs.Linear.{Linear, is_empty, Forms, form, terms_value, IsZeroAt}
 use Rattle.homeo_plan.specs.Table.{Row, walk}
 use Rattle.homeo_plan.specs.Template.{PlannedCall, shifted, base_row, atoms_of, clause_of, Template, Covers}
-use Rattle.homeo_plan.specs.Tracking.{Is, TracksAll, ClauseHolds}
+use Rattle.homeo_plan.specs.Tracking.{Is, ClauseHolds}
 use Rattle.homeo_plan.specs.Treaty.{Treaty}
 use Rattle.homeo_plan.specs.declared.forms.Delta as forms
 use Rattle.homeo_plan.specs.declared.forms.Term.{Term}
-use Rattle.homeo_plan.proofs.Atoms.{each_append, true_comparison_holds, false_comparison_holds, true_cond_below}
+use Rattle.homeo_plan.proofs.Atoms.{each_append, true_cond_below}
 use Rattle.homeo_plan.proofs.Covering.{atoms_hold, each_member, each_map}
 use Rattle.homeo_plan.proofs.OwnWithin.{only, only_keeps, alone_is_joined}
 use Rattle.homeo_plan.proofs.SiteSums.{clauses_hold, freezes_hold}
 use Rattle.homeo_plan.proofs.Tables.{row_at_walk, walk_holds}
-use Rattle.homeo_plan.proofs.Tracked.{tracks}
 use Rattle.homeo_follow.specs.Expanded.{terms_from, deltas_from, expanded_terms, expanded_deltas, expanded}
-use Rattle.homeo_follow.specs.Follow.{passes_by, holds_by, passed_test, failed_test, passed, failed, Followed, asked, object_forms, follow, follow_all, followed}
+use Rattle.homeo_follow.specs.Follow.{own_state, holds_by, passed, failed, Followed, asked, object_forms, follow, follow_all, followed}
+use Rattle.homeo_follow.proofs.Outcomes.{AllAre, value_is, passed_holds, failed_holds}
 use Rattle.homeo_follow.proofs.PlannedAtoms.{atoms_are_followed}
-use Rattle.homeo_linear.specs.Effect.{own_state}
 
 -- ---- a site's own deltas
--- what stands at each place is the value of its form
-abbrev pub AllAre : Deltas → Forms → State → Type 0
-AllAre x f u = (p : Location) → Is (f p) (own_state x) (u p)
-
 -- numbers that are the values of forms, in order
 abbrev pub AreValues : Deltas → List Linear → List ℤ → Type 0
 AreValues x [] [] = Unit {0}
@@ -56,7 +51,7 @@ values_append x (a ∷ as') cs (n ∷ ns) ms h k = (h.0, values_append x as' cs 
 
 -- ---- a command, from forms whose values stand at all places
 put_are :
-    (x : Deltas) (f : Forms) (u : State) (p : Location) (a : Linear) (n : ℤ) → AllAre x f u → Is a (own_state x) n → AllAre x (put f p a) (put u p n)
+    (x : Deltas) (f : Forms) (u : State) (p : Location) (a : Linear) (n : ℤ) → AllAre (own_state x) f u → Is a (own_state x) n → AllAre (own_state x) (put f p a) (put u p n)
 unfolding meaning_definitions
 put_are x f u p a n h k q = go (same_location p q)
   where
@@ -64,63 +59,20 @@ put_are x f u p a n h k q = go (same_location p q)
     go true = k
     go false = h q
 
-module _ (x : Deltas) (f : Forms) (u : State) (h : AllAre x f u) where
-  all_track : TracksAll f (own_state x) (own_state x) u u
-  unfolding plan_definitions
-  all_track p = record { here = h p; there = h p; apart = λ k. refl }
-
-  value_is : (e : Expr) → Is (form f e) (own_state x) (value e u)
-  value_is e = (tracks f (own_state x) (own_state x) u u all_track e).here
-
-  mutual
-    unfolding definitions plan_definitions meaning_definitions
-
-    passed_test_holds : (t : Test) → passes_by f t ≡ true → Each (AtomHolds (own_state x)) (passed_test f t) → passes t u ≡ true
-    passed_test_holds True e k = refl
-    passed_test_holds (Not c) e k = ap not (failed_holds c (not-true (holds_by f c) e) k)
-    passed_test_holds (Comparison op a b) e k =
-        true_comparison_holds op (form f a) (form f b) (own_state x) (value a u) (value b u) (value_is a) (value_is b) k
-
-    failed_test_holds : (t : Test) → passes_by f t ≡ false → Each (AtomHolds (own_state x)) (failed_test f t) → passes t u ≡ false
-    failed_test_holds True e k = e
-    failed_test_holds (Not c) e k = ap not (passed_holds c (not-false (holds_by f c) e) k)
-    failed_test_holds (Comparison op a b) e k =
-        false_comparison_holds op _ (form f a) (form f b) (own_state x) (value a u) (value b u) (value_is a) (value_is b) k
-
-    passed_holds : (c : Cond) → holds_by f c ≡ true → Each (AtomHolds (own_state x)) (passed f c) → holds c u ≡ true
-    passed_holds NoTest e k = refl
-    passed_holds (MoreTest t c) e k =
-        let m = each_append (AtomHolds (own_state x)) (passed_test f t) (passed f c) k in
-        let both = and_parts (passes_by f t) (holds_by f c) e in
-        ap₂ (λ v w. (v && w)) (passed_test_holds t both.0 m.0) (passed_holds c both.1 m.1)
-
-    failed_holds : (c : Cond) → holds_by f c ≡ false → Each (AtomHolds (own_state x)) (failed f c) → holds c u ≡ false
-    failed_holds NoTest e k = absurd (true≢false e)
-    failed_holds (MoreTest t c) e k = first_false (passes_by f t) refl (failed_holds c) (failed_test_holds t) e k
-      where
-        first_false :
-            (v : Bool) → passes_by f t ≡ v →
-            (holds_by f c ≡ false → Each (AtomHolds (own_state x)) (failed f c) → holds c u ≡ false) →
-            (passes_by f t ≡ false → Each (AtomHolds (own_state x)) (failed_test f t) → passes t u ≡ false) →
-            (v && holds_by f c) ≡ false → Each (AtomHolds (own_state x)) (cond v (failed f c) (failed_test f t)) →
-            (passes t u && holds c u) ≡ false
-        first_false true q more one e k = ap (λ w. passes t u && w) (more e k) ∙ and_false (passes t u)
-        first_false false q more one e k = ap (λ w. w && holds c u) (one q k)
-
 -- what is printed and left is the values of the forms that were followed
 pub record RunsBy (x : Deltas) (q : Followed) (r : Run) : Type 0 where
   pub prints : AreValues x q.prints r.prints
-  pub state : AllAre x q.forms r.state
+  pub state : AllAre (own_state x) q.forms r.state
 
 module _ (x : Deltas) where
   mutual
     unfolding definitions meaning_definitions
 
-    pub runs : (c : Command) (f : Forms) (u : State) → AllAre x f u → Each (AtomHolds (own_state x)) (follow c f).atoms → RunsBy x (follow c f) (exec c u)
+    pub runs : (c : Command) (f : Forms) (u : State) → AllAre (own_state x) f u → Each (AtomHolds (own_state x)) (follow c f).atoms → RunsBy x (follow c f) (exec c u)
     runs Skip f u h k = record { prints = tt; state = h }
-    runs (Assign t e) f u h k = record { prints = tt; state = put_are x f u (TempAt t) (form f e) (value e u) h (value_is x f u h e) }
-    runs (Write n e) f u h k = record { prints = tt; state = put_are x f u (location_of n) (form f e) (value e u) h (value_is x f u h e) }
-    runs (Print e) f u h k = record { prints = (value_is x f u h e, tt); state = h }
+    runs (Assign t e) f u h k = record { prints = tt; state = put_are x f u (TempAt t) (form f e) (value e u) h (value_is (own_state x) f u h e) }
+    runs (Write n e) f u h k = record { prints = tt; state = put_are x f u (location_of n) (form f e) (value e u) h (value_is (own_state x) f u h e) }
+    runs (Print e) f u h k = record { prints = (value_is (own_state x) f u h e, tt); state = h }
     runs (Seq cs) f u h k = runs_all cs f u h k
     runs (If b c d) f u h k = go (holds_by f b) refl (λ m. runs c f u h m) (λ m. runs d f u h m) k
       where
@@ -133,16 +85,16 @@ module _ (x : Deltas) where
         go true q left right k =
             let m = each_append (AtomHolds (own_state x)) (passed f b) (follow c f).atoms k in
             let r = left m.1 in
-            subst (λ w. RunsBy x (asked (passed f b) (follow c f)) (cond w (exec c u) (exec d u))) (sym (passed_holds x f u h b q m.0))
+            subst (λ w. RunsBy x (asked (passed f b) (follow c f)) (cond w (exec c u) (exec d u))) (sym (passed_holds (own_state x) f u h b q m.0))
             (record { prints = r.prints; state = r.state })
         go false q left right k =
             let m = each_append (AtomHolds (own_state x)) (failed f b) (follow d f).atoms k in
             let r = right m.1 in
-            subst (λ w. RunsBy x (asked (failed f b) (follow d f)) (cond w (exec c u) (exec d u))) (sym (failed_holds x f u h b q m.0))
+            subst (λ w. RunsBy x (asked (failed f b) (follow d f)) (cond w (exec c u) (exec d u))) (sym (failed_holds (own_state x) f u h b q m.0))
             (record { prints = r.prints; state = r.state })
 
     runs_all :
-        (cs : Commands) (f : Forms) (u : State) → AllAre x f u → Each (AtomHolds (own_state x)) (follow_all cs f).atoms →
+        (cs : Commands) (f : Forms) (u : State) → AllAre (own_state x) f u → Each (AtomHolds (own_state x)) (follow_all cs f).atoms →
         RunsBy x (follow_all cs f) (exec_all cs u)
     runs_all NoCommand f u h k = record { prints = tt; state = h }
     runs_all (MoreCommand c cs) f u h k =
@@ -155,7 +107,7 @@ module _ (x : Deltas) where
           state = rest.state;
         }
 
-pub own_begins : (b x : ℕ → ℤ) → AllAre x (object_forms b) (whole (λ n. b n +ℤ x n))
+pub own_begins : (b x : ℕ → ℤ) → AllAre (own_state x) (object_forms b) (whole (λ n. b n +ℤ x n))
 unfolding definitions plan_definitions meaning_definitions
 own_begins b x (TempAt t) = λ k. omega (arith, ints)
 own_begins b x (BaseAt n) = λ k. omega (arith, ints)

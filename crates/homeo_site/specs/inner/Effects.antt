@@ -7,8 +7,8 @@ use Rattle.homeo_meaning.specs.Serial.{values_of}
 use Rattle.homeo_plan.specs.Linear.{Linear, Forms, form_value}
 use Rattle.homeo_plan.specs.Planned.{planned}
 use Rattle.homeo_plan.specs.Template.{PlannedCall}
-use Rattle.homeo_follow.specs.Follow.{followed}
-use Rattle.homeo_linear.specs.Effect.{own_state, plain_own_form, IsEffect}
+use Rattle.homeo_follow.specs.Follow.{own_state, followed}
+use Rattle.homeo_linear.specs.Effect.{plain_own_form, IsEffect}
 use Rattle.homeo_linear.specs.declared.effect.Effect.{Effect}
 use Rattle.homeo_linear.specs.declared.effect.OwnForm.{OwnForm}
 use Rattle.homeo_linear.specs.declared.effect.OwnWrite.{OwnWrite}

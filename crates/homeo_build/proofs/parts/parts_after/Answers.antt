@@ -5,12 +5,12 @@ use Rattle.homeo_syntax.specs.SourceView.{plain_workload}
 use Rattle.homeo_meaning.specs.Serial.{values_of}
 use Rattle.homeo_meaning.specs.Small.{IsSmall}
 use Rattle.homeo_plan.specs.Limit.{form_limit}
-use Rattle.homeo_follow.specs.Brought.{brought, plain_part}
+use Rattle.homeo_follow.specs.Brought.{brought}
 use Rattle.homeo_build.specs.inner.Followed.{IsSmallAlong}
 use Rattle.homeo_follow.specs.Rebased.{rebased, gains}
-use Rattle.homeo_build.proofs.Following.{small_at, small_base, shared_part, shared_moved, lent_brought, forms_lent, parts_lent, names_lent, parts_all, all_moved, part_within, names_within, part_of, names_of, kept_stays, kept_rebased}
+use Rattle.homeo_build.proofs.Following.{small_at, small_base, shared_part, shared_moved, lent_brought, forms_lent, parts_lent, names_lent, parts_all, all_moved, part_within, names_within, part_of, names_of, kept_here, names_agree}
 use Rattle.homeo_build.proofs.FormsMade.{made_each}
-use Rattle.homeo_build.proofs.Grown.{grown}
+use Rattle.homeo_lemmas.proofs.Grown.{grown}
 use Rattle.homeo_build.proofs.parts.parts_after.Goals.{then-are_rebased, else-are_rebased}
 use Rattle.homeo_build.proofs.parts.parts_after.Goals as goal
 
@@ -49,7 +49,7 @@ offset_bounds-names-i c =
     search rules
 
 pub part_after-requires-clause-kept : goal.part_after-requires-clause-kept
-part_after-requires-clause-kept c = λ yes.
+part_after-requires-clause-kept c =
     let w = plain_workload c.args.c.now in
     let fs = c.as_slice-form-items.result.now in
     let made = c.forms-forms.result.now in
@@ -66,10 +66,32 @@ part_after-requires-clause-kept c = λ yes.
     c.as_slice.ensures.value
     ∙ names_of (values_of last.base.items) fs kept lent c.loop-i.i parts names c.loop-i-test.true
     c.form-item.result c.index-names-i.result c.form-item.is c.index-names-i.is in
-    kept_stays last.base.items c.args.base.now.items c.as_slice-from.result.now c.as_slice-to.result.now c.as_slice-from.ensures c.as_slice-to.ensures
-    (plain_lcommand c.form-item.result) c.as_slice.result.now (shared_part c.index-kept-i.result) named_is old
-    (sym c.have_same_values-stays.ensures ∙ yes)
-    ∙ ap (λ b. brought (values_of b) (plain_lcommand c.form-item.result)) (sym c.loop-i.invariant.follower)
+    kept_here last.base.items c.as_slice-from.result.now c.as_slice-to.result.now c.as_slice-from.ensures (plain_lcommand c.form-item.result)
+    c.as_slice.result.now (shared_part c.index-kept-i.result) named_is old
+
+pub part_after-requires-clause-stays : goal.part_after-requires-clause-stays
+part_after-requires-clause-stays c = λ yes.
+    let w = plain_workload c.args.c.now in
+    let fs = c.as_slice-form-items.result.now in
+    let made = c.forms-forms.result.now in
+    let forms = forms_lent w made.forms.items fs made.places.items c.as_slice-form-items.ensures c.forms-forms.ensures.forms in
+    let last = c.args.last.now in
+    let kept = c.as_slice-kept.result.now in
+    let parts = parts_lent w last.base.items fs made.places.items last.parts.items kept forms c.as_slice-kept.ensures c.requires.last.parts in
+    let lent = c.as_slice-names.result.now in
+    let names =
+    names_lent made.forms.items fs made.names.items lent c.as_slice-form-items.ensures c.as_slice-names.ensures.value c.forms-forms.ensures.names in
+    let old =
+    part_of (values_of last.base.items) fs kept lent c.loop-i.i parts names c.loop-i-test.true c.form-item.result c.index-kept-i.result c.form-item.is c.index-kept-i.is in
+    let named_is =
+    c.as_slice.ensures.value
+    ∙ names_of (values_of last.base.items) fs kept lent c.loop-i.i parts names c.loop-i-test.true
+    c.form-item.result c.index-names-i.result c.form-item.is c.index-names-i.is in
+    names_agree last.base.items c.as_slice-from.result.now c.as_slice-to.result.now c.as_slice-from.ensures (plain_lcommand c.form-item.result)
+    c.as_slice.result.now (shared_part c.index-kept-i.result) named_is old (sym c.have_same_values-stays.ensures ∙ yes)
+
+pub part_after-requires-clause-follower : goal.part_after-requires-clause-follower
+part_after-requires-clause-follower c = c.loop-i.invariant.follower ∙ sym c.as_slice-to.ensures
 
 pub part_after-requires-clause-form : goal.part_after-requires-clause-form
 part_after-requires-clause-form c =
@@ -86,31 +108,6 @@ part_after-requires-clause-base c =
     subst (λ b. (x : ℕ) → IsSmall form_limit (values_of b x)) (sym c.loop-i.invariant.follower)
     (small_base (plain_workload c.args.c.now) c.args.base.now.items c.requires.accepted c.requires.within)
 
-pub is_rebased_part-are_rebased-requires : goal.is_rebased_part-are_rebased-requires
-is_rebased_part-are_rebased-requires c = λ yes.
-    let w = plain_workload c.args.c.now in
-    let fs = c.as_slice-form-items.result.now in
-    let made = c.forms-forms.result.now in
-    let forms = forms_lent w made.forms.items fs made.places.items c.as_slice-form-items.ensures c.forms-forms.ensures.forms in
-    let last = c.args.last.now in
-    let kept = c.as_slice-kept.result.now in
-    let parts = parts_lent w last.base.items fs made.places.items last.parts.items kept forms c.as_slice-kept.ensures c.requires.last.parts in
-    let lent = c.as_slice-names.result.now in
-    let names =
-    names_lent made.forms.items fs made.names.items lent c.as_slice-form-items.ensures c.as_slice-names.ensures.value c.forms-forms.ensures.names in
-    let old =
-    part_of (values_of last.base.items) fs kept lent c.loop-i.i parts names c.loop-i-test.true c.form-item.result c.index-kept-i.result c.form-item.is c.index-kept-i.is in
-    let named_is =
-    c.as_slice.ensures.value
-    ∙ names_of (values_of last.base.items) fs kept lent c.loop-i.i parts names c.loop-i-test.true
-    c.form-item.result c.index-names-i.result c.form-item.is c.index-names-i.is in
-    let moved =
-    kept_rebased last.base.items c.args.base.now.items c.as_slice-from.result.now c.as_slice-to.result.now c.as_slice-from.ensures c.as_slice-to.ensures
-    (plain_lcommand c.form-item.result) c.as_slice.result.now (shared_part c.index-kept-i.result) named_is old
-    (sym c.have_same_values-stays.ensures ∙ yes) in
-    let g = gains (values_of c.as_slice-from.result.now) (values_of c.as_slice-to.result.now) in
-    ap plain_part c.deref-then-are_rebased.ensures ∙ (c.in_ok-part.ensures.part ∙ ap (λ b. brought (values_of b) (plain_lcommand c.form-item.result)) c.loop-i.invariant.follower) ∙ moved ∙ ap (λ p. rebased g (plain_part p)) (sym c.deref.ensures)
-
 pub loop-i-preserved : goal.loop-i-preserved
 loop-i-preserved c =
     let w = plain_workload c.args.c.now in
@@ -126,7 +123,7 @@ loop-i-preserved c =
     let base = c.args.base.now.items in
     let within = part_within (values_of last.base.items) fs kept lent c.loop-i.i parts names c.loop-i-test.true in
     let pushed = ap (λ l. l.items) c.in_ok-push.ensures.ok in
-    let brings = c.in_ok-part.ensures.part ∙ ap (λ b. brought (values_of b) (plain_lcommand c.form-item.result)) c.loop-i.invariant.follower in
+    let brings = c.in_ok-made.ensures.part ∙ ap (λ b. brought (values_of b) (plain_lcommand c.form-item.result)) c.as_slice-to.ensures in
     record {
       follower = c.part_after.ensures.follower ∙ c.loop-i.invariant.follower;
       parts =
@@ -134,12 +131,11 @@ loop-i-preserved c =
           pushed c.loop-i.invariant.parts brings;
       rebased = λ yes. elim c.if-are_rebased.branch [
         | then-are_rebased w ↦ (
-            let found = w.is_rebased_part-are_rebased.ensures (sym w.are_rebased-is ∙ yes) in
             let from = c.as_slice-from.ensures in
             let to = c.as_slice-to.ensures in
             let moved =
-            sym (ap plain_part w.deref-then-are_rebased.ensures) ∙ found
-            ∙ (λ i. rebased (gains (values_of (from i)) (values_of (to i))) (plain_part (w.deref.ensures i))) in
+            c.in_ok-made.ensures.rebased (sym w.are_rebased-is ∙ yes)
+            ∙ (λ i. rebased (gains (values_of (from i)) (values_of (to i))) (shared_part c.index-kept-i.result)) in
             grown shared_part (shared_moved last.base.items base) c.loop-i.parts.items _ _ kept c.loop-i.i c.index-kept-i.result within c.index-kept-i.is
             pushed (c.loop-i.invariant.rebased w.if-are_rebased.true) moved
             )
