@@ -52,7 +52,7 @@ use Rattle.homeo_build.proofs.FewSites.{sites_few}
 use Rattle.homeo_build.proofs.Following.{atoms_are}
 use Rattle.homeo_build.proofs.FrozenSites.{has_frozen, frozen_in_order}
 use Rattle.homeo_build.proofs.GroundCalls.{can_compile}
-use Rattle.homeo_lemmas.proofs.Grown.{same_length}
+use Rattle.homeo_build.proofs.Grown.{same_length}
 use Rattle.homeo_build.proofs.Planning.{can_plan}
 
 -- ---- the sets at the places of forms

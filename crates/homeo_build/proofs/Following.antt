@@ -52,7 +52,7 @@ use Rattle.homeo_build.specs.Plan.{AreParts}
 use Rattle.homeo_build.specs.inner.Followed.{IsSmallAlong}
 use Rattle.homeo_build.specs.inner.Rebased.{IsRebased, AreRebased}
 use Rattle.homeo_build.proofs.FormsMade.{placed_map}
-use Rattle.homeo_lemmas.proofs.Grown.{same_length, same_place}
+use Rattle.homeo_build.proofs.Grown.{same_length, same_place}
 
 -- ---- numbers along forms
 each_here : {X Y : Type 0} (P : Y → Type 0) (f : X → Y) (xs : List X) (i : ℕ) (x : X) → Each P (map f xs) → i < length xs → x ≡ get_or xs i x → P (f x)

@@ -7,6 +7,7 @@ pub mod FewSites
 pub mod Following
 pub mod FormsMade
 pub mod GroundCalls
+pub mod Grown
 pub mod NamedDeltas
 pub mod NamedObjects
 pub mod PlanParts

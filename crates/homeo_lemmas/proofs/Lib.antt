@@ -1,5 +1,4 @@
 pub mod Bools
-pub mod Grown
 pub mod Integers
 pub mod Lists
 pub mod Naturals

@@ -4,7 +4,7 @@ use Rattle.std.proofs.lemmas.List.{take_all}
 use Rattle.std.proofs.lemmas.Simd.{map-map}
 use Rattle.homeo_syntax.specs.LowView.{plain_lcommand}
 use Rattle.homeo_follow.specs.Named.{named}
-use Rattle.homeo_lemmas.proofs.Grown.{grown}
+use Rattle.homeo_build.proofs.Grown.{grown}
 use Rattle.homeo_build.proofs.names.names_of.Goals as goal
 
 pub loop-form-preserved : goal.loop-form-preserved

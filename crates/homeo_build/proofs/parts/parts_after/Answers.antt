@@ -10,7 +10,7 @@ use Rattle.homeo_build.specs.inner.Followed.{IsSmallAlong}
 use Rattle.homeo_follow.specs.Rebased.{rebased, gains}
 use Rattle.homeo_build.proofs.Following.{small_at, small_base, shared_part, shared_moved, lent_brought, forms_lent, parts_lent, names_lent, parts_all, all_moved, part_within, names_within, part_of, names_of, kept_here, names_agree}
 use Rattle.homeo_build.proofs.FormsMade.{made_each}
-use Rattle.homeo_lemmas.proofs.Grown.{grown}
+use Rattle.homeo_build.proofs.Grown.{grown}
 use Rattle.homeo_build.proofs.parts.parts_after.Goals.{then-are_rebased, else-are_rebased}
 use Rattle.homeo_build.proofs.parts.parts_after.Goals as goal
 

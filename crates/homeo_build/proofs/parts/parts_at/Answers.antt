@@ -9,7 +9,7 @@ use Rattle.homeo_follow.specs.Brought.{brought}
 use Rattle.homeo_build.specs.inner.Followed.{IsSmallAlong}
 use Rattle.homeo_build.proofs.Following.{small_at, small_base, shared_part, lent_brought, forms_lent, parts_all}
 use Rattle.homeo_build.proofs.FormsMade.{made_each}
-use Rattle.homeo_lemmas.proofs.Grown.{grown}
+use Rattle.homeo_build.proofs.Grown.{grown}
 use Rattle.homeo_build.proofs.parts.parts_at.Goals as goal
 
 pub part_at-requires-clause-form : goal.part_at-requires-clause-form
