@@ -3,9 +3,8 @@ use Rattle.std.proofs.Common.{◌≡◌, ℕ, suc, ◌+◌, ◌<◌, ◌≤◌, 
 use Rattle.std.proofs.lemmas.Int.{ints}
 use Rattle.std.proofs.lemmas.List.{length-map, length-append}
 use Rattle.serde.specs.Event.{Log, Logs, seq_begins, seq_ends, map_begins, map_ends, signed, unsigned}
-use Rattle.serde_json.specs.Data.{Data, Members, member, no_members}
-use Rattle.serde_json.specs.Events.{items_len, members_len, number_event, SendsValue, SendsItems, SendsMembers}
-use Rattle.serde_json.specs.Find.{of_integer}
+use Rattle.serde_json.specs.Data.{Data}
+use Rattle.serde_json.specs.Events.{items_len, members_len, SendsValue, SendsItems, SendsMembers}
 use Rattle.serde_json.specs.View.{items_of}
 use Rattle.homeo_lemmas.proofs.Lists.{drop_past}
 use Rattle.homeo_certificate.specs.Json.{whole_data, list_data}
@@ -53,28 +52,38 @@ members_counted (f ∷ fs) = ap suc (members_counted fs)
 pub record AreSent (fs : List Field) (old new : Log) : Type 0 where
   pub sends : SendsFields fs old new
 
-pub sent_of : (fs : List Field) (old new : Log) → AreSent fs old new → SendsFields fs old new
-sent_of fs old new h = h.sends
+pub sent_of : (fs : List Field) {old new : Log} → AreSent fs old new → SendsFields fs old new
+sent_of fs h = h.sends
 
 -- the last member, or the last ones
-pub field_sent : (f : Field) (old new : Log) → SendsField f old new → AreSent (f ∷ []) old new
-field_sent f old new h = record { sends = λ rest end r. (h.0, new, h.1, h.2, r) }
+pub field_sent : {f : Field} {old new : Log} → SendsField f old new → AreSent (f ∷ []) old new
+field_sent {new = new} h = record { sends = λ rest end r. (h.0, new, h.1, h.2, r) }
 
-pub fields_sent : (fs : List Field) (old new : Log) → SendsFields fs old new → AreSent fs old new
-fields_sent fs old new h = record { sends = h }
+pub fields_sent : {fs : List Field} {old new : Log} → SendsFields fs old new → AreSent fs old new
+fields_sent h = record { sends = h }
 
 -- and others behind them
-pub then_field : (f : Field) (fs : List Field) (old mid new : Log) → SendsField f old mid → AreSent fs mid new → AreSent (f ∷ fs) old new
-then_field f fs old mid new h k = record { sends = λ rest end r. (h.0, mid, h.1, h.2, k.sends rest end r) }
+pub then_field : {f : Field} {fs : List Field} {old mid new : Log} → SendsField f old mid → AreSent fs mid new → AreSent (f ∷ fs) old new
+then_field {mid = mid} h k = record { sends = λ rest end r. (h.0, mid, h.1, h.2, k.sends rest end r) }
 
-pub both_sent : (fs gs : List Field) (old mid new : Log) → SendsFields fs old mid → AreSent gs mid new → AreSent (fs ++ gs) old new
-both_sent fs gs old mid new h k =
+pub both_sent : (fs : List Field) {gs : List Field} {old mid new : Log} → SendsFields fs old mid → AreSent gs mid new → AreSent (fs ++ gs) old new
+both_sent fs {gs = gs} {old = old} h k =
     record { sends = λ rest end r. subst (λ xs. SendsMembers (members_of xs) old end) (sym (append_assoc fs gs rest)) (h (gs ++ rest) end (k.sends rest end r)) }
 
+-- members whose values are written otherwise
+as_written : (key : List ℕ) (d e : Data) (old new : Log) → d ≡ e → SendsField (key, d) old new → SendsField (key, e) old new
+as_written key d e old new same h = subst (λ x. SendsField (key, x) old new) same h
+
+pub field_as : (key : List ℕ) {d e : Data} {old new : Log} → d ≡ e → SendsField (key, d) old new → AreSent ((key, e) ∷ []) old new
+field_as key {d = d} {e = e} {old = old} {new = new} same h = field_sent (as_written key d e old new same h)
+
+pub then_as : (key : List ℕ) {d e : Data} {fs : List Field} {old mid new : Log} → d ≡ e → SendsField (key, d) old mid → AreSent fs mid new → AreSent ((key, e) ∷ fs) old new
+then_as key {d = d} {e = e} {old = old} {mid = mid} same h k = then_field (as_written key d e old mid same h) k
+
 pub object_sent :
-    (fs : List Field) (n : ℕ) (old first last new : Log) → n ≡ length fs → Logs old first (map_begins (Some n)) → AreSent fs first last →
+    (fs : List Field) (n : ℕ) (old new : Log) {first last : Log} → n ≡ length fs → Logs old first (map_begins (Some n)) → AreSent fs first last →
     Logs last new map_ends → SendsValue (object_of fs) old new
-object_sent fs n old first last new count begun sent ended =
+object_sent fs n old new {first = first} count begun sent ended =
     let counted : n ≡ members_len (members_of fs) = count ∙ sym (members_counted fs) in (
       first,
       subst (λ m. Logs old first (map_begins (Some m))) counted begun,
@@ -83,11 +92,11 @@ object_sent fs n old first last new count begun sent ended =
 
 -- begun with its first members, and ended behind the others
 pub typed_sent :
-    (fs gs : List Field) (n : ℕ) (old mid last new : Log) → n ≡ length gs → Begins fs n old mid → AreSent gs mid last → Logs last new map_ends →
+    (fs gs : List Field) (n : ℕ) (new : Log) {old mid last : Log} → n ≡ length gs → Begins fs n old mid → AreSent gs mid last → Logs last new map_ends →
     SendsValue (object_of (fs ++ gs)) old new
-typed_sent fs gs n old mid last new count b sent ended =
+typed_sent fs gs n new {old = old} count b sent ended =
     let all : length fs + n ≡ length (fs ++ gs) = ap (λ m. length fs + m) count ∙ sym (length-append fs gs) in
-    object_sent (fs ++ gs) (length fs + n) old b.first last new all b.begins (both_sent fs gs b.first mid last b.sends sent) ended
+    object_sent (fs ++ gs) (length fs + n) old new all b.begins (both_sent fs b.sends sent) ended
 
 -- ---- what is seen of values
 pub maybe_seen : {A B : Type 0} (f : B → Data) (see : A → B) (o : Option A) → maybe_data (λ x. f (see x)) o ≡ maybe_data f (option_map see o)

@@ -1,16 +1,10 @@
-use Rattle.std.proofs.Common.{refl}
 use Rattle.std.proofs.lemmas.Result.{on_ok_weaker}
 use Rattle.homeo_syntax.specs.SourceView.{plain_workload}
-use Rattle.homeo_lines.proofs.Sent.{field_sent, fields_sent, then_field, both_sent, sent_of, maybe_seen, each_seen, each_maybe_seen}
+use Rattle.homeo_lines.proofs.Sent.{sent_of, field_sent, then_field, both_sent}
 use Rattle.homeo_lines.specs.Written.{named_call_fields, breach_fields}
 use Rattle.homeo_lines.proofs.packets_writing.write_breach.Goals as goal
 
 pub returns : goal.returns
 returns g c =
     let w = plain_workload c.args.catalogue.now in
-    let o = g.S.Serializer.written c.args.out.now in
-    let l1 = g.S.Serializer.written c.write_member.new.out in
-    let l2 = g.S.Serializer.written c.write_member-2.new.out in
-    let l3 = g.S.Serializer.written c.write_named_call.new.out in
-    let l4 = g.S.Serializer.written c.write_member-3.new.out in
-    on_ok_weaker c.write_member-3.result (λ h. sent_of (breach_fields w c.args.b.now) o l4 (then_field _ _ o l1 l4 c.in_ok-write_member.ensures (then_field _ _ l1 l2 l4 c.in_ok-write_member-2.ensures (both_sent (named_call_fields w c.args.b.now.call) _ l2 l3 l4 c.in_ok-write_named_call.ensures (field_sent _ l3 l4 h))))) c.write_member-3.ensures
+    on_ok_weaker c.write_member-3.result (λ h. sent_of (breach_fields w c.args.b.now) (then_field c.in_ok-write_member.ensures (then_field c.in_ok-write_member-2.ensures (both_sent (named_call_fields w c.args.b.now.call) c.in_ok-write_named_call.ensures (field_sent h))))) c.write_member-3.ensures

@@ -1,8 +1,8 @@
 use Rattle.std.proofs.Common.{refl}
 use Rattle.std.proofs.lemmas.Result.{on_ok_weaker}
 use Rattle.homeo_syntax.specs.SourceView.{plain_workload}
-use Rattle.homeo_lines.proofs.Sent.{field_sent, fields_sent, then_field, both_sent, object_sent, typed_sent, maybe_seen, each_seen, each_maybe_seen}
-use Rattle.std.specs.Prelude.{codes, None, Some}
+use Rattle.homeo_lines.proofs.Sent.{field_sent, then_field, typed_sent}
+use Rattle.std.specs.Prelude.{codes}
 use Rattle.homeo_lines.specs.Written.{type_fields, other_fields}
 use Rattle.homeo_lines.specs.Lines as l
 use Rattle.homeo_lines.proofs.writing.write_error.Goals as goal
@@ -10,9 +10,4 @@ use Rattle.homeo_lines.proofs.writing.write_error.Goals as goal
 pub returns : goal.returns
 returns g c =
     let w = plain_workload c.args.catalogue.now in
-    let o = g.S.Serializer.written c.args.out.now in
-    let l0 = g.S.Serializer.written c.begin_typed.new.out in
-    let l1 = g.S.Serializer.written c.write_member.new.out in
-    let l2 = g.S.Serializer.written c.write_member-2.new.out in
-    let e = g.S.Serializer.written c.end_map.new.self in
-    on_ok_weaker c.end_map.result (λ h. typed_sent (type_fields (codes "error") c.args.number) (other_fields w (l.Error c.args.number c.args.wrong.code c.args.wrong.text.now)) 2 o l0 l2 e refl c.in_ok-begin_typed.ensures (then_field _ _ l0 l1 l2 c.in_ok-write_member.ensures (field_sent _ l1 l2 c.in_ok-write_member-2.ensures)) h) c.end_map.ensures
+    on_ok_weaker c.end_map.result (λ h. typed_sent (type_fields (codes "error") c.args.number) (other_fields w (l.Error c.args.number c.args.wrong.code c.args.wrong.text.now)) 2 (g.S.Serializer.written c.end_map.new.self) refl c.in_ok-begin_typed.ensures (then_field c.in_ok-write_member.ensures (field_sent c.in_ok-write_member-2.ensures)) h) c.end_map.ensures

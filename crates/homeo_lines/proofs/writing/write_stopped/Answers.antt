@@ -14,14 +14,8 @@ returns g c =
     let w = plain_workload c.args.catalogue.now in
     let said = plain_said c.args.said.now in
     let others = other_fields w (l.Sent (State c.args.round c.args.site said)) in
-    let o = g.S.Serializer.written c.args.out.now in
-    let l0 = g.S.Serializer.written c.begin_typed.new.out in
-    let l1 = g.S.Serializer.written c.write_member.new.out in
-    let l2 = g.S.Serializer.written c.write_member-2.new.out in
-    let l3 = g.S.Serializer.written c.write_said.new.out in
-    let e = g.S.Serializer.written c.end_map.new.self in
     let two : 2 + c.said_count.result ≡ length others = counted c.said_count.result (length (said_fields w said)) (c.said_count.ensures.count w) in
-    on_ok_weaker c.end_map.result (λ h. typed_sent (type_fields (codes "state") None) others (2 + c.said_count.result) o l0 l3 e two c.in_ok-begin_typed.ensures (then_field _ _ l0 l1 l3 c.in_ok-write_member.ensures (then_field _ _ l1 l2 l3 c.in_ok-write_member-2.ensures (fields_sent _ l2 l3 c.in_ok-write_said.ensures))) h) c.end_map.ensures
+    on_ok_weaker c.end_map.result (λ h. typed_sent (type_fields (codes "state") None) others (2 + c.said_count.result) (g.S.Serializer.written c.end_map.new.self) two c.in_ok-begin_typed.ensures (then_field c.in_ok-write_member.ensures (then_field c.in_ok-write_member-2.ensures (fields_sent c.in_ok-write_said.ensures))) h) c.end_map.ensures
   where
     counted : (n m : ℕ) → n ≡ m → 2 + n ≡ suc (suc m)
     counted n m e = omega arith

@@ -1,7 +1,6 @@
-use Rattle.std.proofs.Common.{refl}
 use Rattle.std.proofs.lemmas.Result.{on_ok_weaker}
 use Rattle.homeo_syntax.specs.SourceView.{plain_workload}
-use Rattle.homeo_lines.proofs.Sent.{field_sent, fields_sent, then_field, both_sent, object_sent, typed_sent, maybe_seen, each_seen, each_maybe_seen}
+use Rattle.homeo_lines.proofs.Sent.{fields_sent, then_field, both_sent, object_sent}
 use Rattle.homeo_lines.specs.LineView.{plain_answer}
 use Rattle.homeo_lines.proofs.Counted.{seven}
 use Rattle.homeo_lines.specs.Written.{named_call_fields, given_fields}
@@ -10,10 +9,4 @@ use Rattle.homeo_lines.proofs.state_writing.AnswerWritten.write.Goals as goal
 pub returns : goal.returns
 returns g c =
     let w = plain_workload c.args.catalogue.now in
-    let o = g.S.Serializer.written c.args.out.now in
-    let l0 = g.S.Serializer.written c.begin_map.new.self in
-    let l1 = g.S.Serializer.written c.write_member.new.out in
-    let l2 = g.S.Serializer.written c.write_named_call.new.out in
-    let l3 = g.S.Serializer.written c.write_answer.new.out in
-    let e = g.S.Serializer.written c.end_map.new.self in
-    on_ok_weaker c.end_map.result (λ h. object_sent (given_fields w (plain_answer c.args.self.now)) 7 o l0 l3 e (seven w c.args.self.now.number c.args.self.now.call c.args.self.now.prints.items c.args.self.now.round c.args.self.now.path) c.in_ok-begin_map.ensures (then_field _ _ l0 l1 l3 c.in_ok-write_member.ensures (both_sent (named_call_fields w c.args.self.now.call) _ l1 l2 l3 c.in_ok-write_named_call.ensures (fields_sent _ l2 l3 c.in_ok-write_answer.ensures))) h) c.end_map.ensures
+    on_ok_weaker c.end_map.result (λ h. object_sent (given_fields w (plain_answer c.args.self.now)) 7 (g.S.Serializer.written c.args.out.now) (g.S.Serializer.written c.end_map.new.self) (seven w c.args.self.now.number c.args.self.now.call c.args.self.now.prints.items c.args.self.now.round c.args.self.now.path) c.in_ok-begin_map.ensures (then_field c.in_ok-write_member.ensures (both_sent (named_call_fields w c.args.self.now.call) c.in_ok-write_named_call.ensures (fields_sent c.in_ok-write_answer.ensures))) h) c.end_map.ensures
