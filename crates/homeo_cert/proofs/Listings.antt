@@ -119,37 +119,31 @@ list_If test c d = ap command_nodes (low_If test c d)
 pub ruleset command_listings = (list_Skip, list_Assign, list_Write, list_Print, list_Seq, list_If, append_assoc)
 
 -- ---- one after another
--- what is listed, and then what is left
-pub exprs_next : (es : List LExpr) (i : ℕ) (e : LExpr) → i < length es → e ≡ get_or es i e →
-    exprs_nodes (low_exprs (map plain_lexpr (drop i es))) ≡ expr_nodes (plain_lexpr e) ++ exprs_nodes (low_exprs (map plain_lexpr (drop (i + 1) es)))
+-- the nodes of a list are those of each item, one after another
+pub record Lists {X P N : Type 0} (plain : X → P) (all : List P → List N) (each : P → List N) : Type 0 where
+  pub more : (p : P) (ps : List P) → all (p ∷ ps) ≡ each p ++ all ps
+  pub none : all [] ≡ []
+
+pub exprs_listed : Lists plain_lexpr (λ es. exprs_nodes (low_exprs es)) expr_nodes
 unfolding definitions syntax_definitions
-exprs_next es i e h p = ap (λ l. exprs_nodes (low_exprs l)) (drop_next plain_lexpr es i e h p)
+exprs_listed = record { more = λ e es. refl; none = refl }
 
-pub exprs_none : (es : List LExpr) (i : ℕ) → length es ≤ i → exprs_nodes (low_exprs (map plain_lexpr (drop i es))) ≡ []
+pub tests_listed : Lists plain_ltest (λ ts. cond_nodes (low_tests ts)) test_nodes
 unfolding definitions syntax_definitions
-exprs_none es i h = ap (λ l. exprs_nodes (low_exprs l)) (map_drop_past plain_lexpr es i h)
+tests_listed = record { more = λ t ts. refl; none = refl }
 
-pub tests_next : (ts : List LTest) (i : ℕ) (t : LTest) → i < length ts → t ≡ get_or ts i t →
-    cond_nodes (low_tests (map plain_ltest (drop i ts))) ≡ test_nodes (plain_ltest t) ++ cond_nodes (low_tests (map plain_ltest (drop (i + 1) ts)))
+pub commands_listed : Lists plain_lcommand (λ cs. commands_nodes (low_commands cs)) command_nodes
 unfolding definitions syntax_definitions
-tests_next ts i t h p = ap (λ l. cond_nodes (low_tests l)) (drop_next plain_ltest ts i t h p)
+commands_listed = record { more = λ c cs. refl; none = refl }
 
-pub tests_none : (ts : List LTest) (i : ℕ) → length ts ≤ i → cond_nodes (low_tests (map plain_ltest (drop i ts))) ≡ []
-unfolding definitions syntax_definitions
-tests_none ts i h = ap (λ l. cond_nodes (low_tests l)) (map_drop_past plain_ltest ts i h)
+module _ {X P N : Type 0} {plain : X → P} {all : List P → List N} {each : P → List N} (lists : Lists plain all each) (xs : List X) (i : ℕ) where
+  -- what was listed after some nodes, with the first of what is left put behind it
+  pub one_more : (x : X) (before now new : List N) → i < length xs → x ≡ get_or xs i x → new ≡ now ++ each (plain x) →
+      now ++ all (map plain (drop i xs)) ≡ before ++ all (map plain xs) → new ++ all (map plain (drop (i + 1) xs)) ≡ before ++ all (map plain xs)
+  one_more x before now new within is put so =
+      let rest = all (map plain (drop (i + 1) xs)) in
+      ap (λ l. l ++ rest) put ∙ append_assoc now (each (plain x)) rest
+      ∙ ap (λ l. now ++ l) (sym (ap all (drop_next plain xs i x within is) ∙ lists.more (plain x) (map plain (drop (i + 1) xs)))) ∙ so
 
-pub commands_next : (cs : List LCommand) (i : ℕ) (c : LCommand) → i < length cs → c ≡ get_or cs i c →
-    commands_nodes (low_commands (map plain_lcommand (drop i cs))) ≡ command_nodes (plain_lcommand c) ++ commands_nodes (low_commands (map plain_lcommand (drop (i + 1) cs)))
-unfolding definitions syntax_definitions
-commands_next cs i c h p = ap (λ l. commands_nodes (low_commands l)) (drop_next plain_lcommand cs i c h p)
-
-pub commands_none : (cs : List LCommand) (i : ℕ) → length cs ≤ i → commands_nodes (low_commands (map plain_lcommand (drop i cs))) ≡ []
-unfolding definitions syntax_definitions
-commands_none cs i h = ap (λ l. commands_nodes (low_commands l)) (map_drop_past plain_lcommand cs i h)
-
--- what was listed after some nodes, with the first of what is left put behind it
-pub one_more : {A : Type 0} (before all now new x left rest : List A) → new ≡ now ++ x → left ≡ x ++ rest → now ++ left ≡ before ++ all → new ++ rest ≡ before ++ all
-one_more before all now new x left rest e p so = ap (λ l. l ++ rest) e ∙ append_assoc now x rest ∙ ap (λ l. now ++ l) (sym p) ∙ so
-
-pub none_left : {A : Type 0} (before all now left : List A) → left ≡ [] → now ++ left ≡ before ++ all → now ≡ before ++ all
-none_left before all now left p so = sym (append-nil now) ∙ ap (λ l. now ++ l) (sym p) ∙ so
+  pub none_left : (before now : List N) → length xs ≤ i → now ++ all (map plain (drop i xs)) ≡ before ++ all (map plain xs) → now ≡ before ++ all (map plain xs)
+  none_left before now past so = sym (append-nil now) ∙ ap (λ l. now ++ l) (sym (ap all (map_drop_past plain xs i past) ∙ lists.none)) ∙ so
