@@ -159,12 +159,21 @@ impl Wire {
         count_stale(self.nodes.as_slice(), self.packets.as_slice())
     }
 
+    /// The node of a site that there is.
+    fn node(&self, site: u32) -> &Node
+        requires { site < sites_of (plain_workload self.now.work) }
+        ensures view { (m : nodes.Node) → slice_get self.now.world.nodes site ≡ Some m → plain_node result.now ≡ m }
+        ensures base { result.now.base.items ≡ result.now.site.state.base }
+    {
+        &self.nodes[site as usize]
+    }
+
     /// The round of a site that there is. It takes no memory.
     pub fn round(&self, site: u32) -> u64
         requires { site < sites_of (plain_workload self.now.work) }
         ensures { (m : nodes.Node) → slice_get self.now.world.nodes site ≡ Some m → result ≡ m.journal.site.round }
     {
-        self.nodes[site as usize].site.round()
+        self.node(site).site.round()
     }
 
     /// Lends the base of the round in which a site is. It takes no memory.
@@ -172,7 +181,7 @@ impl Wire {
         requires { site < sites_of (plain_workload self.now.work) }
         ensures { (m : nodes.Node) → slice_get self.now.world.nodes site ≡ Some m → result.now.items ≡ m.journal.site.base }
     {
-        &self.nodes[site as usize].base
+        &self.node(site).base
     }
 
     /// How many calls a client has that aren't in the history. It takes no memory.
