@@ -86,7 +86,7 @@ impl<'a> Rules<'a> {
         if c.holds {
             self.keep_true(alloc, c.op, &c.left, &c.right)
         } else {
-            self.keep_false(alloc, c.op, &c.left, &c.right)
+            self.keep_false(alloc, c)
         }
     }
 
@@ -105,19 +105,19 @@ impl<'a> Rules<'a> {
         }
     }
 
-    fn keep_false(&self, alloc: Global, op: Compare, left: &Form, right: &Form) -> Result<(), Stop>
-        requires left { Numbers (IsSmall form_limit) left.now }
-        requires right { Numbers (IsSmall form_limit) right.now }
-        ensures { Finds (flat_map (atom_faults (plain_rules self.now)) (kept_false op left.now right.now)) result }
+    /// That a comparison which doesn't hold where all deltas are 0 is kept so: the one that holds in its place is kept.
+    fn keep_false(&self, alloc: Global, c: &Compared) -> Result<(), Stop>
+        requires { AreSmall c.now }
+        ensures { Finds (flat_map (atom_faults (plain_rules self.now)) (kept_false c.now.op c.now.left c.now.right)) result }
     {
-        match op {
-            Compare::Less => self.keep(alloc, right, left, 0),
-            Compare::LessEqual => self.keep(alloc, right, left, 1),
+        match c.op {
+            Compare::Less => self.keep_true(alloc, Compare::LessEqual, &c.right, &c.left),
+            Compare::LessEqual => self.keep_true(alloc, Compare::Less, &c.right, &c.left),
             Compare::Equal => {
-                if is_true(Compare::Less, left, right) {
-                    self.keep(alloc, left, right, 1)
+                if is_true(Compare::Less, &c.left, &c.right) {
+                    self.keep_true(alloc, Compare::Less, &c.left, &c.right)
                 } else {
-                    self.keep(alloc, right, left, 1)
+                    self.keep_true(alloc, Compare::Less, &c.right, &c.left)
                 }
             }
         }
