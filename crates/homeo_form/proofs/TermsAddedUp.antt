@@ -3,28 +3,31 @@
 use Rattle.std.proofs.Common.{◌≡◌, ◌+◌, ℕ, suc, All, Bool, true, false, cond, List, [], ◌∷◌, ◌++◌, sum_by, ℤ, pos, negsuc, ◌+ℤ◌, ◌-ℤ◌, ◌*ℤ◌, refl, sym, ap, ap₂, ◌∙◌, arith}
 use borrow.Author.Differences.{up, down}
 use Rattle.std.specs.List.Sorted.{IsPermutation}
-use Rattle.std.proofs.lemmas.Bool.Decides.{nat_tests}
+use Rattle.std.specs.Ordering.{int_eq}
+use Rattle.std.proofs.lemmas.Bool.Decides.{nat_tests, Decides-int_eq}
 use Rattle.std.proofs.lemmas.Int.{ints}
 use Rattle.std.proofs.lemmas.List.Sums.{sum_by-cons}
 use Rattle.std.proofs.lemmas.List.Sorted.{All-permutation, sum_by-IsPermutation}
-use Rattle.homeo_lemmas.proofs.Integers.{plus_zero}
+use Rattle.homeo_lemmas.proofs.Integers.{plus_zero, plus_cancel}
 use Rattle.homeo_meaning.specs.Small.{IsSmall}
 use Rattle.homeo_plan.specs.Key.{definitions as plan_definitions}
 use Rattle.homeo_plan.specs.Each.{Each}
-use Rattle.homeo_plan.specs.Linear.{AreInOrder, same_delta, deltas_of, add_term, add_terms, scale_terms}
+use Rattle.homeo_plan.specs.Linear.{AreInOrder, same_delta, delta_before, deltas_of, with_term, add_term, add_terms, scale_terms}
 use Rattle.homeo_plan.specs.declared.forms.Delta.{Delta}
 use Rattle.homeo_plan.specs.declared.forms.Term.{Term}
 use Rattle.homeo_plan.specs.Limit.{form_limit}
 use Rattle.homeo_form.specs.Key.{definitions}
 use Rattle.homeo_form.specs.inner.Terms.{AllCount, AreSmall, share, factor_at}
-use Rattle.homeo_plan.proofs.DeltaLists.{After}
-use Rattle.homeo_plan.proofs.Factors.{factor, add_terms_factor, scale_terms_factor}
-use Rattle.homeo_plan.proofs.Order.{Above, Sorted, none_above, head_factor}
-use Rattle.homeo_follow.proofs.Terms as follow
+use Rattle.homeo_plan.proofs.DeltaLists.{After, after_before}
+use Rattle.homeo_plan.proofs.Factors.{factor, add_terms_factor, scale_terms_factor, same_delta_is, before_total}
+use Rattle.homeo_plan.proofs.Order.{Above, none_above, head_factor}
 use Rattle.homeo_form.proofs.Orders.{each_at}
 use Rattle.homeo_form.proofs.Adding.{order_adds, order_scale}
 
 -- ---- numbers
+left_over : (f : ℤ) → int_eq f (pos 0) ≡ false → f ≡ pos 0 → ⊥
+left_over f h e = grind (arith, Decides-int_eq f (pos 0))
+
 pub add_assoc : (x y z : ℤ) → (x +ℤ y) +ℤ z ≡ x +ℤ (y +ℤ z)
 add_assoc x y z = omega (arith, ints)
 
@@ -54,31 +57,12 @@ unfolding plan_definitions
 above d [] a = tt
 above d (t ∷ ts) a = (a.0, above d ts a.1)
 
-sorted : (ts : List Term) → AreInOrder (deltas_of ts) → Sorted ts
-unfolding plan_definitions
-sorted [] o = tt
-sorted (t ∷ ts) o = (above t.delta ts o.0, sorted ts o.1)
-
 pub above_none : (d : Delta) (ts : List Term) → After d (deltas_of ts) → factor_at d ts ≡ pos 0
 above_none d ts a = at_factor d ts ∙ none_above d ts (above d ts a)
 
 -- the first term has all of its delta's factors
 pub first_at : (t : Term) (ts : List Term) → After t.delta (deltas_of ts) → factor_at t.delta (t ∷ ts) ≡ t.factor
 first_at t ts a = at_factor t.delta (t ∷ ts) ∙ head_factor t ts (above t.delta ts a)
-
-same_terms :
-    (ts us : List Term) → AreInOrder (deltas_of ts) → AreInOrder (deltas_of us) → AllCount ts → AllCount us → ((d : Delta) → factor_at d ts ≡ factor_at d us) → ts ≡ us
-unfolding definitions plan_definitions
-same_terms ts us o p c k h = follow.same_terms ts us (sorted ts o) (sorted us p) c k (λ d. sym (at_factor d ts) ∙ h d ∙ at_factor d us)
-
--- ---- factors that aren't 0
-pub count_adds : (ts us : List Term) → AllCount us → AllCount (add_terms ts us)
-unfolding definitions plan_definitions
-count_adds ts us c = follow.count_adds ts us c
-
-pub count_scale : (n : ℤ) (ts : List Term) → AllCount (scale_terms n ts)
-unfolding definitions plan_definitions
-count_scale n ts = follow.count_scale n ts
 
 -- ---- in another order
 -- what is gained and what is lost
@@ -111,6 +95,70 @@ at_permuted d ts us p =
     in_parts d us
     ∙ ap₂ (λ m n. pos m -ℤ pos n) (sum_by-IsPermutation (gain d) ts us p) (sum_by-IsPermutation (loss d) ts us p)
     ∙ sym (in_parts d ts)
+
+-- ---- lists in order that have the same factors
+same_rest :
+    (t u : Term) (d : Delta) (ts us : List Term) → t ≡ u → share d t.delta t.factor +ℤ factor_at d ts ≡ share d u.delta u.factor +ℤ factor_at d us →
+    factor_at d ts ≡ factor_at d us
+same_rest t u d ts us p h =
+    plus_cancel (share d t.delta t.factor) (factor_at d ts) (factor_at d us) (h ∙ ap (λ (x : Term). share d x.delta x.factor +ℤ factor_at d us) (sym p))
+
+-- a term that counts is missed by a list without its delta
+missed : (t : Term) (ts us : List Term) → int_eq t.factor (pos 0) ≡ false → After t.delta (deltas_of ts) → factor_at t.delta us ≡ pos 0 →
+    factor_at t.delta (t ∷ ts) ≡ factor_at t.delta us → ⊥
+missed t ts us c a n h = left_over t.factor c (sym (first_at t ts a) ∙ h ∙ n)
+
+same_terms :
+    (ts us : List Term) → AreInOrder (deltas_of ts) → AreInOrder (deltas_of us) → AllCount ts → AllCount us → ((d : Delta) → factor_at d ts ≡ factor_at d us) → ts ≡ us
+unfolding definitions plan_definitions
+same_terms [] [] o p c k h = refl
+same_terms [] (u ∷ us) o p c k h = absurd (missed u us [] k.0 p.0 refl (sym (h u.delta)))
+same_terms (t ∷ ts) [] o p c k h = absurd (missed t ts [] c.0 o.0 refl (h t.delta))
+same_terms (t ∷ ts) (u ∷ us) o p c k h =
+    go (same_delta t.delta u.delta) refl (delta_before t.delta u.delta) refl (same_terms ts us o.1 p.1 c.1 k.1)
+  where
+    go :
+        (v : Bool) → same_delta t.delta u.delta ≡ v → (w : Bool) → delta_before t.delta u.delta ≡ w →
+        (((x : Delta) → factor_at x ts ≡ factor_at x us) → ts ≡ us) → t ∷ ts ≡ u ∷ us
+    go true q w r ih =
+        let e : t.delta ≡ u.delta = same_delta_is t.delta u.delta q in
+        let f : t.factor ≡ u.factor = sym (first_at t ts o.0) ∙ h t.delta ∙ ap (λ x. factor_at x (u ∷ us)) e ∙ first_at u us p.0 in
+        let s : t ≡ u = λ i. record { delta = e i; factor = f i } in
+        ap₂ ◌∷◌ s (ih (λ x. same_rest t u x ts us s (h x)))
+    go false q true r ih =
+        absurd (missed t ts (u ∷ us) c.0 o.0 (above_none t.delta (u ∷ us) (r, after_before t.delta u.delta (deltas_of us) r p.0)) (h t.delta))
+    go false q false r ih =
+        let s : delta_before u.delta t.delta ≡ true = before_total t.delta u.delta q r in
+        absurd (missed u us (t ∷ ts) k.0 p.0 (above_none u.delta (t ∷ ts) (s, after_before u.delta t.delta (deltas_of ts) s o.0)) (sym (h u.delta)))
+
+-- ---- factors that aren't 0
+count_with : (d : Delta) (f : ℤ) (ts : List Term) → AllCount ts → AllCount (with_term d f ts)
+unfolding definitions plan_definitions
+count_with d f ts c = go (int_eq f (pos 0)) refl
+  where
+    go : (v : Bool) → int_eq f (pos 0) ≡ v → AllCount (cond v ts (record { delta = d; factor = f } ∷ ts))
+    go true h = c
+    go false h = (h, c)
+
+count_add : (d : Delta) (f : ℤ) (ts : List Term) → AllCount ts → AllCount (add_term d f ts)
+unfolding definitions plan_definitions
+count_add d f [] c = count_with d f [] tt
+count_add d f (t ∷ ts) c = go (same_delta d t.delta) (delta_before d t.delta) (count_add d f ts c.1)
+  where
+    go : (v w : Bool) → AllCount (add_term d f ts) → AllCount (cond v (with_term t.delta (f +ℤ t.factor) ts) (cond w (with_term d f (t ∷ ts)) (t ∷ add_term d f ts)))
+    go true w ih = count_with t.delta (f +ℤ t.factor) ts c.1
+    go false true ih = count_with d f (t ∷ ts) c
+    go false false ih = (c.0, ih)
+
+pub count_adds : (ts us : List Term) → AllCount us → AllCount (add_terms ts us)
+unfolding plan_definitions
+count_adds [] us c = c
+count_adds (t ∷ ts) us c = count_adds ts (add_term t.delta t.factor us) (count_add t.delta t.factor us c)
+
+pub count_scale : (n : ℤ) (ts : List Term) → AllCount (scale_terms n ts)
+unfolding definitions plan_definitions
+count_scale n [] = tt
+count_scale n (t ∷ ts) = count_with t.delta (n *ℤ t.factor) (scale_terms n ts) (count_scale n ts)
 
 -- ---- what they are put together
 same_by : (ts us : List Term) → AreInOrder (deltas_of us) → AllCount us → ((d : Delta) → factor_at d us ≡ factor_at d ts) → us ≡ add_terms ts []
